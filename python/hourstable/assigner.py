@@ -7,6 +7,7 @@ the job lease chooses which of them acts.
 import asyncio
 import logging
 from collections.abc import Callable
+from functools import partial
 from typing import Any
 
 from hourstable import library
@@ -14,6 +15,8 @@ from hourstable.context import about
 from hourstable.desk import Desk, Told, Unreachable
 from hourstable.library import JobTerm, Phase, Refused
 from hourstable.plans import Hysteresis, Planner
+from hourstable.supervisor import Supervisor
+from hourstable.system import SYSTEM, System
 
 ALL = "all jobs"
 THINK = 2.0  # seconds after which loads are looked at again, if nothing else changed
@@ -156,13 +159,15 @@ class JobAssigner:
 
 
 class AssignerOfJobs:
-    """The assigners of all jobs of a desk."""
+    """The assigners of all jobs of a desk. `count(where)` is told of what nobody expected."""
 
     def __init__(
-        self, number: int, desk: Desk, local: Callable[[], int], rules: Hysteresis | None = None
+        self, number: int, desk: Desk, local: Callable[[], int], rules: Hysteresis | None = None,
+        count: Callable[[str], object] | None = None, system: System = SYSTEM,
     ) -> None:
         self._number, self._desk, self._local = number, desk, local
         self._rules = rules or Hysteresis()
+        self._supervisor = Supervisor(f"assigner {number}", log, count, system.random().random)
         self._running: dict[str, asyncio.Task[None]] = {}
         self._due: dict[str, int] = {}  # by the local clock, when the next step of a job is
 
@@ -174,19 +179,22 @@ class AssignerOfJobs:
     async def run(self) -> None:
         """Runs until it is cancelled."""
         try:
-            while True:
-                try:
-                    for job in await self._desk.jobs():
-                        if job not in self._running:
-                            self._running[job] = asyncio.create_task(self._follow(job))
-                except Unreachable as error:
-                    log.warning("%s", error)
-                self._due[ALL] = self._local() + 500
-                await asyncio.sleep(0.5)
+            await self._supervisor.watch("jobs of the assigner", self._follow_jobs)
         finally:
-            for task in self._running.values():
-                task.cancel()
-            await asyncio.gather(*self._running.values(), return_exceptions=True)
+            await self._supervisor.close()
+
+    async def _follow_jobs(self) -> None:
+        while True:
+            try:
+                for job in await self._desk.jobs():
+                    if job not in self._running:
+                        self._running[job] = self._supervisor.watch("assigner", partial(self._follow, job))
+                after = 0.5
+            except Unreachable as error:
+                log.warning("%s", error)
+                after = max(0.5, error.least)
+            self._due[ALL] = self._local() + int(after * 1000)
+            await asyncio.sleep(after)
 
     async def _follow(self, job: str) -> None:
         with about(job=job, caller=f"assigner {self._number}"):
@@ -200,9 +208,9 @@ class AssignerOfJobs:
                     after = await assigner.step()
                 except Unreachable as error:
                     log.info("%s: %s", job, error)
-                    after = 0.5
-                except Exception:
-                    log.exception("%s: the assigner begins anew", job)
+                    after = max(0.5, error.least)
+                except Exception as error:
+                    self._supervisor.caught("assigner", error, f"it begins anew for {job}")
                     assigner.close()
                     after = 1.0
                 self._due[job] = self._local() + int(after * 1000)

@@ -310,12 +310,17 @@ async def _run_assigner(chosen: argparse.Namespace) -> int:
     ended, tickets = signalled(), Tickets(process_number(chosen.process), chosen.ticket)
     desk = desk_of(chosen, tickets)
     jobs = AssignerOfJobs(chosen.assigner, desk, local_clock(), _rules_in(chosen))
-    running = asyncio.create_task(jobs.run())
-    await ended.wait()
-    running.cancel()
-    await asyncio.gather(running, return_exceptions=True)
-    await desk.close()
-    tickets.close()
+    running, told = asyncio.create_task(jobs.run()), asyncio.create_task(ended.wait())
+    try:
+        await asyncio.wait({running, told}, return_when=asyncio.FIRST_COMPLETED)
+        if running.done():
+            running.result()
+    finally:
+        for one in (running, told):
+            one.cancel()
+        await asyncio.gather(running, told, return_exceptions=True)
+        await desk.close()
+        tickets.close()
     return 0
 
 

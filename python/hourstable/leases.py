@@ -9,12 +9,13 @@ from collections.abc import Callable, Mapping
 from functools import partial
 from typing import Any, TypeVar
 
+from .kept_log import KeptLog
 from .library import KINDS as NUMBERS
 from .library import (
     CALLS, KeyHandle, LoggedCall, Phase, Policy, Refused, Served, Slicelet, TaskClock,
     clock_evidence, log_line,
 )
-from .logs import Log, NoLog, line_of, value_of
+from .logs import NoLog, line_of, value_of
 from .ranges import Ranges, minus, ranges_of, union
 from .tickets import Tickets
 
@@ -56,7 +57,7 @@ class Leases:
         clock: TaskClock,
         local_clock: Callable[[], int],
         tickets: Tickets,
-        log: Log | NoLog,
+        log: KeptLog | NoLog,
     ) -> None:
         self.job, self.task, self.life = job, task, life
         self.clock, self.local_clock = clock, local_clock

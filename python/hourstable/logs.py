@@ -220,6 +220,12 @@ class NoLog:
     def append(self, *lines: str) -> None:
         """Does nothing."""
 
+    def is_ready(self) -> bool:
+        return False
+
+    def go_on(self) -> None:
+        """Does nothing."""
+
     def close(self) -> None:
         """Does nothing."""
 
@@ -340,7 +346,7 @@ def calls_of(path: Path) -> Iterator[dict[str, Any]]:
     line."""
     with open(path, "rb") as lines:
         for line in lines:
-            if not line.strip():
+            if not line.strip() or line.startswith(GAP):
                 continue
             try:
                 call = json.loads(line)

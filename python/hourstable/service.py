@@ -100,7 +100,7 @@ class ControlPlane:
         ending.push_async_callback(plane.stop)
         port = await plane.start(chosen.host, chosen.port, chosen.tls, chosen.poll)
         if chosen.assigner:
-            plane.supervisor.watch("assigner", lambda: _assigner(chosen, plane, local).run())
+            plane.supervisor.watch("assigner", lambda: _assigner(chosen, plane, local, system).run())
         return port
 
     async def stop(self) -> None:
@@ -116,8 +116,9 @@ class ControlPlane:
         await self.stop()
 
 
-def _assigner(chosen: Options, plane: Plane, local: Callable[[], int]) -> AssignerOfJobs:
-    made = plane.readiness.assigner = AssignerOfJobs(chosen.assigner, LocalDesk(plane), local, chosen.rules)
+def _assigner(chosen: Options, plane: Plane, local: Callable[[], int], system: System) -> AssignerOfJobs:
+    given = LocalDesk(plane), local, chosen.rules, plane.metrics.internal_error, system
+    made = plane.readiness.assigner = AssignerOfJobs(chosen.assigner, *given)
     return made
 
 

@@ -9,6 +9,7 @@ import mmap
 import os
 import random
 import time
+from collections.abc import Callable
 from pathlib import Path
 
 LIBC = ctypes.CDLL(None, use_errno=True)
@@ -26,12 +27,29 @@ def make_folder(path: str | os.PathLike[str]) -> Path:
     return made
 
 
+def _steady() -> Callable[[], int]:
+    """Returns the clock of `steady_ticks`, or CLOCK_BOOTTIME alone where the system lacks one of its clocks."""
+    read, boottime = time.clock_gettime_ns, time.CLOCK_BOOTTIME
+    try:
+        monotonic, raw = time.CLOCK_MONOTONIC, time.CLOCK_MONOTONIC_RAW
+        read(raw)
+    except (AttributeError, OSError):
+        return lambda: read(boottime) // 1_000_000
+    # In this order, whatever happens in between, the value is one of the time from the first reading to the last.
+    return lambda: (read(boottime) - read(monotonic) + read(raw)) // 1_000_000
+
+
+steady_ticks = _steady()
+"""Returns CLOCK_MONOTONIC_RAW and the time for which the machine was suspended, in ticks of a millisecond. No time
+service slews the first, and CLOCK_BOOTTIME is ahead of CLOCK_MONOTONIC by the second."""
+
+
 class System:
     """The operating system of this process."""
 
     def ticks(self) -> int:
-        """Returns CLOCK_BOOTTIME in ticks. It counts the time for which the machine is suspended."""
-        return time.clock_gettime_ns(time.CLOCK_BOOTTIME) // 1_000_000
+        """Returns the local clock, `steady_ticks`. It counts while the machine is suspended."""
+        return steady_ticks()
 
     def monotonic(self) -> float:
         """Returns seconds that never fall, from any start."""

@@ -29,6 +29,20 @@ async def within(seconds: float, work: Coroutine[Any, Any, T]) -> T:
             child.exception()  # it is told, or the caller was cancelled at the same time
 
 
+async def unless(ends: Coroutine[Any, Any, None], work: Coroutine[Any, Any, T]) -> T:
+    """Returns what a coroutine returns. Raises TimeoutError, and cancels it, if another one ends first."""
+    child, end = asyncio.create_task(work), asyncio.create_task(ends)
+    try:
+        await asyncio.wait({child, end}, return_when=asyncio.FIRST_COMPLETED)
+        if child.done() and not child.cancelled():
+            return child.result()
+        raise TimeoutError("another control plane is asked now")
+    finally:
+        for one in (child, end):
+            one.cancel()
+        await asyncio.gather(child, end, return_exceptions=True)
+
+
 async def pause(seconds: float, event: asyncio.Event) -> None:
     """Waits until an event is set, but not longer than these seconds."""
     try:

@@ -20,10 +20,10 @@ def gather(folder: Path, job: str) -> Path:
 
 def audit(folder: Path, job: str, program: str, must_be_timely: bool) -> str:
     """Audits the logs of a job, and returns what is wrong: nothing, if all its calls are one run and
-    its clocks were timely, where they must be, or if the logs say that they lack calls."""
+    its clocks were timely, where they must be. Logs that say that lines are missing are no run."""
     gathered = gather(folder, job)
     files = logs.lay_out(gathered, folder / "audit" / job)
-    if not files:
+    if not files or gaps_of(gathered):
         return ""
     made = subprocess.run(
         [program, "audit", *map(str, files)], capture_output=True, text=True, timeout=SECONDS,
@@ -33,8 +33,6 @@ def audit(folder: Path, job: str, program: str, must_be_timely: bool) -> str:
     is_one = made.returncode == 0 and any(line.startswith("audit one") for line in said)
     is_timely = "timely yes" in said
     if is_one and (is_timely or not must_be_timely):
-        return ""
-    if gaps_of(gathered):  # what is missing is named, and what follows from it is no fault
         return ""
     told = (made.stdout + made.stderr).replace(f"{folder}/", "").strip().splitlines()
     return f"{job}: status {made.returncode}: " + "; ".join(told)[-500:]

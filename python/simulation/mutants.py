@@ -69,12 +69,12 @@ MUTANTS = (
         "            return self.clock.read(self.local_clock()) - 1500",
     ),), seeds="2"),
     Mutant("clock-stops-asleep", "clock.py", ((
-        "    ticks = boottime_ticks if system is SYSTEM else system.ticks",
+        "    ticks = steady_ticks if system is SYSTEM else system.ticks",
         "    ticks = lambda: int(system.monotonic() * 1000)",
     ),), seeds="41"),
     Mutant("sent-is-late", "calls.py", ((
-        "        return _taken(status, headers, found, sent)",
-        "        return _taken(status, headers, found, self.local_clock())",
+        "        return _taken(url, status, headers, found, sent)",
+        "        return _taken(url, status, headers, found, self.local_clock())",
     ),), seeds="6"),
     Mutant("life-twice", "store.py", ((
         "            return Life(life.life + 1, life.drained)",
@@ -89,7 +89,7 @@ MUTANTS = (
         "                if True:\n                    await self._make",
     ),), seeds="31"),
     Mutant("observe-nothing", "calls.py", (
-        ("            self.tickets.observe_text(headers.get(HEADER))\n", ""),
+        ("            self.tickets.observe_text(headers.get(HEADER))\n", "            pass\n"),
     ), seeds="2"),
     Mutant("plane-observes-nothing", "control.py", ((
         "                self.tickets.observe_text(request.headers.get(ticketing.HEADER))",
@@ -116,7 +116,7 @@ MUTANTS = (
         '                log.warning("the store was not read: %s", error)\n                return',
     ),), seeds="31"),
     Mutant("notes-not-brought", "task.py", ((
-        '                await self._control.call("POST", "/free", note)\n                return',
+        '                await self._control.read(replies.freed_in, "POST", "/free", note)\n                return',
         "                return",
     ),), seeds="55"),
     Mutant("renews-late", "task.py", ((
@@ -137,8 +137,8 @@ MUTANTS = (
         "                    self._looking[name].add_done_callback(partial(self._looked, name))",
         "                await self._look_at(name)",
     ),), seeds="24"),
-    Mutant("policy-from-anything", "task.py", (
-        ("        if not _is_object(answer.body):", "        if False:"),
+    Mutant("policy-from-anything", "replies.py", (
+        ("    answer.value()\n    return answer.status != 409", "    return answer.status != 409"),
     ), why_not="an odd answer also ends the tasks, which then create the job"),
 )
 

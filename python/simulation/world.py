@@ -33,6 +33,7 @@ class Host:
 
     def __init__(self, world: "World", address: str, ppm: int, wall: int, disk: "Disk") -> None:
         self.world, self.address, self.ppm, self.disk = world, address, ppm, disk
+        self.own_rate, self.wrong_rates = ppm, 0  # how many faults let it run at another one
         self.wall = wall  # ns by which its real time is ahead of the world's
         self.is_down = self.is_asleep = False
         self.boots = 0
