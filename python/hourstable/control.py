@@ -454,7 +454,7 @@ class Plane:
             case Malformed():
                 return failure(400, str(error))
             case NoSuchJob():
-                return failure(404, f"there is no job {error}")
+                return failure(404, f"there is no job {error}: PUT /jobs/{error} with its policy creates it")
             case Conflict() | LivesSpent():
                 return failure(409, str(error))
             case Limited():

@@ -20,10 +20,14 @@ import needed
 needed.library()
 
 from hourstable import doctor, readiness  # noqa: E402
+from hourstable.calls import Rejected  # noqa: E402
+from hourstable.client import NoOwner, Router  # noqa: E402
 from hourstable.command import main  # noqa: E402
 from hourstable.plans import Hysteresis  # noqa: E402
 from hourstable.service import ControlPlane, Options  # noqa: E402
 from hourstable.store import StoreFailed  # noqa: E402
+from hourstable.task import Task as ServiceTask  # noqa: E402
+from hourstable.waiting import within  # noqa: E402
 from serving import Caller, Task  # noqa: E402
 
 SECRET = "a-secret-of-many-characters"
@@ -227,6 +231,26 @@ async def test_a_drain_moves_no_tickets(tmp_path: Path, monkeypatch: pytest.Monk
         assert await asyncio.to_thread(main, ["drain", "--control", caller.url, "shop", "3"]) == 0
         assert [int(text or 0) for text in seen] == [0]
         assert (await caller.get()).json["draining"] in ([], [3])
+
+
+async def test_a_job_that_is_not_there(tmp_path: Path, capfd: Said) -> None:
+    """Who asks for it is told to PUT it, and nobody waits without end."""
+    hint = "there is no job shop: PUT /jobs/shop with its policy creates it"
+    async with plane_of(tmp_path) as (_, caller):
+        for path in ("", "/phase", "/assignment?after=0", "/leases"):
+            answer = await caller.get(path)
+            assert (answer.status, answer.json) == (404, {"error": hint})
+        with pytest.raises(Rejected, match="there is no job shop: PUT it"):
+            await within(30, ServiceTask(caller.url, "shop", 1, logs=None).start())
+        async with Router(caller.url, "shop") as router:
+            with pytest.raises(NoOwner, match=hint):
+                await within(30, router.send("hello", attempt, patience=1.0))
+        status = await asyncio.to_thread(main, ["drain", "--control", caller.url, "shop", "3"])
+        assert status == 3 and hint in capfd.readouterr().err
+
+
+async def attempt(task: int) -> None:
+    raise AssertionError(f"task {task} owns nothing")
 
 
 async def test_terms_that_are_meant_in_seconds(tmp_path: Path, monkeypatch: pytest.MonkeyPatch) -> None:

@@ -25,6 +25,7 @@ from hourstable.record import Record  # noqa: E402
 from hourstable.service import ControlPlane, Options  # noqa: E402
 from hourstable.store import Store, StoreFailed, open_store  # noqa: E402
 from hourstable.system import SYSTEM, System  # noqa: E402
+from hourstable.task import Task as ServiceTask  # noqa: E402
 from hourstable.tickets import Tickets  # noqa: E402
 from serving import HALF, POLICY, Caller, Task  # noqa: E402
 
@@ -233,6 +234,21 @@ async def test_lines_of_an_assigner_name_its_job(
         await until(told)
         work.cancel()
         await asyncio.gather(work, return_exceptions=True)
+
+
+async def test_lines_of_a_task_name_it(tmp_path: Path, lines: list[str]) -> None:
+    def fails(_: object) -> None:
+        raise ValueError("a callback that fails")
+
+    async with plane_of(tmp_path) as (_, caller):
+        given: dict[str, Any] = {"logs": tmp_path / "logs", "policy": POLICY, "on_gain": fails}
+        async with ServiceTask(caller.url, "shop", 3, **given):
+
+            async def told() -> bool:
+                about = [line for line in lines if line.startswith("hourstable.task: ")]
+                return any("job=shop task=3" in line for line in about)
+
+            await until(told)
 
 
 # The record ------------------------------------------------------------------------------------
