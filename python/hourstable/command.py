@@ -65,6 +65,8 @@ def _control_words(words: argparse.ArgumentParser) -> None:
     words.add_argument("--listen", required=True, metavar="HOST:PORT")
     words.add_argument("--logs", required=True, metavar="FOLDER",
                        help="for the logs of all jobs")
+    words.add_argument("--keep-logs", metavar="DAYS", type=int,
+                       help="remove its logs after so many days, audited or not (never)")
     words.add_argument("--state", metavar="FOLDER", type=Path,
                        help="for the tickets of this process ($STATE_DIRECTORY, or else the one of the logs with"
                        " .state behind its name)")
@@ -209,6 +211,8 @@ def options_of(chosen: argparse.Namespace) -> Options:
         raise ValueError(f"{chosen.listen!r} is not HOST:PORT")
     if not chosen.store_deadline > 0:
         raise ValueError("--store-deadline is above 0")
+    if chosen.keep_logs is not None and chosen.keep_logs < 1:
+        raise ValueError("--keep-logs is a number of days, 1 or more")
     limits = Limits(
         jobs=chosen.most_jobs, connections=chosen.most_connections, peer=chosen.most_connections_of_peer,
         grants=chosen.grants, burst=2 * chosen.grants,
@@ -219,7 +223,7 @@ def options_of(chosen: argparse.Namespace) -> Options:
         assigner=chosen.assigner,
         secrets=secrets_in(chosen.secret_file) if chosen.secret_file else [],
         tls=server_tls(chosen), limits=limits, rules=_rules_in(chosen),
-        store_deadline=chosen.store_deadline, state=chosen.state,
+        store_deadline=chosen.store_deadline, state=chosen.state, keep_logs=chosen.keep_logs,
     )
 
 

@@ -155,6 +155,7 @@ class Settings:
     ticks_ahead: int = 1000
     local: Callable[[], int] = field(default=SYSTEM.ticks)
     system: System = SYSTEM
+    keep_logs: int | None = None  # days for which files of logs are kept; None for ever
 
 
 class Counters:
@@ -251,7 +252,8 @@ class Job:
             policy, members = self._policy_in(stored)
             folder = logs.folder_of(self.settings.logs, self.name)
             given = f"control-{self.settings.process}", logs.job_line(members)
-            self._log = logs.Log(folder, *given, system=self.settings.system)
+            settings = self.settings
+            self._log = logs.Log(folder, *given, keep=settings.keep_logs, system=settings.system)
             self.policy, self.members = policy, members
         return stored
 

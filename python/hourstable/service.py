@@ -45,6 +45,7 @@ class Options:
     rules: Hysteresis = field(default_factory=Hysteresis)
     poll: float = 1.0  # seconds between two looks at what other planes wrote
     store_deadline: float = DEADLINE  # seconds in which a call of the store returns or fails
+    keep_logs: int | None = None  # days for which its logs are kept; None: for ever
     state: Path | None = None  # the folder of its tickets; None: $STATE_DIRECTORY, or the one beside `logs`
 
 
@@ -93,10 +94,12 @@ class ControlPlane:
         ending.callback(tickets.close)
         local = self._local_clock or local_clock_of(system=system)
         shared = store.several if chosen.shared is None else chosen.shared
-        settings = Settings(chosen.logs, process, shared, chosen.standby, local=local, system=system)
+        settings = Settings(
+            chosen.logs, process, shared, chosen.standby, local=local, system=system, keep_logs=chosen.keep_logs
+        )
         plane = self.plane = Plane(store, settings, tickets, chosen.limits, chosen.secrets)
         plane.readiness.folders = [chosen.logs, state]
-        plane.record = Record(state / f"record-{process}.jsonl", system)
+        plane.record = Record(state / f"record-{process}.ndjson", system)
         ending.push_async_callback(plane.stop)
         port = await plane.start(chosen.host, chosen.port, chosen.tls, chosen.poll)
         if chosen.assigner:

@@ -204,6 +204,25 @@ async def test_logs_are_removed_after_an_audit(tmp_path: Path, capfd: Said) -> N
     assert [path.name for path in logs.files_of(folder)] == left
 
 
+async def test_a_plane_removes_its_logs_after_days(tmp_path: Path, capfd: Said) -> None:
+    needed.program()
+    folder = tmp_path / "logs/shop"
+    for days in (10, 9):
+        await play(tmp_path, days)
+    assert len(logs.files_of(folder)) == 4
+    options = Options(f"sqlite:{tmp_path}/jobs", tmp_path / "logs", assigner=0, keep_logs=9)
+    async with ControlPlane(options):
+        pass
+    names = [path.name.partition(".")[0] for path in logs.files_of(folder)]
+    assert names == ["control-0", "control-0", "task-1", "task-1"]
+    (gap,) = gaps_of(folder)
+    assert gap.removed.startswith("control-0.") and 0 < gap.first < gap.last
+    assert main(["audit", str(folder)]) == 1
+    assert "was removed and not audited" in capfd.readouterr().out
+    store = ["--store", f"sqlite:{tmp_path}/jobs", "--logs", f"{tmp_path}/logs", "--listen", "127.0.0.1:0"]
+    assert main(["control", *store, "--keep-logs", "0"]) == 2
+
+
 async def test_a_wrong_log_is_not_removed(tmp_path: Path, capfd: Said) -> None:
     needed.program()
     folder = tmp_path / "logs/shop"

@@ -276,7 +276,7 @@ async def test_who_did_what_is_recorded(tmp_path: Path) -> None:
     assert found[2]["request"] == "by-hand"
     async with plane_of(tmp_path, assigner=0) as (_, caller):  # it outlasts the process
         assert (await caller.ask("GET", "/record")).json["record"] == found
-    path = next(tmp_path.rglob("record-0.jsonl"))
+    path = next(tmp_path.rglob("record-0.ndjson"))
     assert [json.loads(line) for line in path.read_text().splitlines()] == found
     assert path.stat().st_mode & 0o777 == 0o600
 
