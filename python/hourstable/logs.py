@@ -16,7 +16,7 @@ from functools import partial
 from pathlib import Path
 from typing import Any
 
-from hourstable.system import SYSTEM, System
+from hourstable.system import SYSTEM, System, make_folder
 
 ASSIGNERS, TASKS = 8, 64  # the most that a job may have
 CLERKS = 128  # as many as have a ticket process of their own
@@ -100,7 +100,7 @@ class Log:
         self.folder, self.name, self.job = Path(folder), name, job
         self._system = system
         self._today, self._day, self._file = today or partial(utc_day, system), "", -1
-        self.folder.mkdir(parents=True, exist_ok=True)
+        make_folder(self.folder)
         self._turn_to(self._today())
 
     def append(self, *lines: str) -> None:
@@ -126,7 +126,7 @@ class Log:
     def _turn_to(self, day: str) -> None:
         path = self.folder / f"{self.name}.{day}{ENDING}"
         flags = os.O_RDWR | os.O_CREAT | os.O_APPEND | os.O_CLOEXEC
-        file = self._system.open(path, flags, 0o644)
+        file = self._system.open(path, flags, 0o600)
         try:
             _mend(self._system, file)
             self._begin(file, path)
