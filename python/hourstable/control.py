@@ -160,8 +160,8 @@ class Plane:
         try:
             await job.finish()
             await job.settle()
-        except (StoreFailed, Conflict, OSError) as error:
-            log.warning("%s was not settled: %s", job.name, error)
+        except Exception as error:
+            log.warning("%s was not settled: %r", job.name, error)
 
     async def _poll(self, every: float) -> None:
         """Looks what other planes wrote, where several share the store, and again at jobs that failed."""

@@ -310,13 +310,18 @@ async def test_a_job_that_cannot_be_loaded_leaves_no_file_open(file: Store, tmp_
     store, system = WithoutLives(file), Counting()
     given: Any = store
     async with running(given, tmp_path / "logs", system=system) as (_, caller):
-        before = system.is_open
         for _ in range(5):
             assert (await caller.get()).status == 503
-        assert system.is_open == before
+
+        async def are_open() -> bool:  # the poller tries it, too
+            return system.is_open == expected
+
+        expected = 1  # the file of tickets
+        await until(are_open)
         store.fails = False
         assert (await caller.get()).status == 200
-        assert system.is_open == before + 1
+        expected = 2
+        await until(are_open)
 
 
 class Surprising:
