@@ -187,13 +187,16 @@ class Plane:
     async def _look_at(self, name: str) -> None:
         """Reads what is stored of a job. One that fails keeps no other from being served."""
         try:
-            await (await self.followed(name)).job.refresh()
+            job = (await self.followed(name)).job
+            await job.refresh()
         except NoSuchJob:
             self.failures.forget(name)
         except Exception as error:
             self._fail(name, "read", error)
         else:
             self.failures.well(name, "read")
+            if not job.is_held:  # its callers may have gone to another plane
+                self.failures.lapse(name, "call", self._now() - self.limits.patience)
 
     def _fail(self, name: str, what: str, error: Exception) -> None:
         """Notes that a job failed: it is shown with why, and tried again."""

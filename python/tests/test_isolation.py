@@ -18,6 +18,8 @@ import needed
 
 needed.library()
 
+from hourstable.failures import Failures  # noqa: E402
+from hourstable.limits import Limits  # noqa: E402
 from hourstable.service import ControlPlane  # noqa: E402
 from hourstable.state import state_folder  # noqa: E402
 from hourstable.store import Damaged, Life, Store, StoreFailed  # noqa: E402
@@ -258,6 +260,38 @@ async def test_calls_on_a_full_disk(file: Store, tmp_path: Path) -> None:
     numbers = [int(it["reply"].split()[1]) for it in lines_of(tmp_path / "logs") if it["do"] == "grant"]
     assert numbers == list(range(1, len(numbers) + 1))
     assert len(numbers) == int(json.loads(stored.kept)["value"]["granted"])
+
+
+async def test_a_failure_whose_callers_went_to_another_plane_lapses(file: Store, tmp_path: Path) -> None:
+    system, limits = Full(), Limits(patience=0.5)
+    async with running(file, tmp_path / "logs", limits=limits, system=system) as (_, caller):
+        await begun(caller)
+        system.is_full = True
+        assert (await caller.grant(1)).status == 503
+        assert list(await failed(caller)) == ["shop"]
+
+        async def is_well() -> bool:
+            return await failed(caller) == {}
+
+        await until(is_well)
+
+
+def test_failures() -> None:
+    failures = Failures()
+    for at, what in enumerate(("read", "call", "read")):
+        failures.failed("shop", what, OSError(5, "broken"), float(at))
+    assert failures.of("shop") == ("[Errno 5] broken", 0.0, 2, 2.0) and failures.of("cart") is None
+    first = failures.of("shop")
+    assert first is not None
+    assert first.value(4.04) == {"why": "[Errno 5] broken", "seconds": 4.0, "tries": 2}
+    failures.lapse("shop", "call", 1.0)
+    failures.well("shop", "read")
+    assert failures.of("shop") == ("[Errno 5] broken", 1.0, 1, 1.0) and list(failures) == ["shop"]
+    failures.lapse("shop", "call", 1.1)
+    assert failures.of("shop") is None and "shop" not in failures
+    failures.failed("shop", "read", KeyError("x"), 5.0)
+    failures.forget("shop")
+    assert list(failures) == []
 
 
 async def test_a_disk_on_which_tickets_cannot_be_kept(file: Store, tmp_path: Path) -> None:
