@@ -3,6 +3,7 @@
 import argparse
 import asyncio
 import logging
+import os
 import resource
 import signal
 import ssl
@@ -18,10 +19,11 @@ from hourstable.desk import HttpDesk, Unreachable
 from hourstable.limits import Limits
 from hourstable.plans import Hysteresis, slices_in
 from hourstable.service import ControlPlane, Options, process_number
-from hourstable.store import DEADLINE, StoreFailed
+from hourstable.store import DEADLINE, StoreFailed, password_in
 from hourstable.tickets import NoTickets, Tickets
 
 DEMO_SECONDS = 34
+STORE = "HOURSTABLE_STORE"  # the variable with the URL of the store
 OTHER_FILES = 256  # logs, connections of the store, and so on
 
 
@@ -58,8 +60,11 @@ def parser() -> argparse.ArgumentParser:
 
 def _control_words(words: argparse.ArgumentParser) -> None:
     words.set_defaults(run=_control)
-    words.add_argument("--store", required=True, metavar="URL",
-                       help="sqlite:FILE, postgresql://.., etcd://HOST:PORT,.. or etcds://..")
+    store = words.add_mutually_exclusive_group()
+    store.add_argument("--store", metavar="URL",
+                       help="sqlite:FILE, postgresql://.., etcd://HOST:PORT,.. or etcds://.. without a password")
+    store.add_argument("--store-file", metavar="FILE",
+                       help=f"the first line is the URL; without both words it is that of ${STORE}")
     words.add_argument("--store-deadline", type=float, default=DEADLINE, metavar="SECONDS",
                        help=f"in which a call of the store is answered, or fails ({DEADLINE:g})")
     words.add_argument("--listen", required=True, metavar="HOST:PORT")
@@ -218,13 +223,29 @@ def options_of(chosen: argparse.Namespace) -> Options:
         grants=chosen.grants, burst=2 * chosen.grants,
     )
     return Options(
-        chosen.store, Path(chosen.logs), host.strip("[]"), int(port),
+        store_in(chosen), Path(chosen.logs), host.strip("[]"), int(port),
         process=process_number(chosen.process), shared=chosen.shared, standby=chosen.standby,
         assigner=chosen.assigner,
         secrets=secrets_in(chosen.secret_file) if chosen.secret_file else [],
         tls=server_tls(chosen), limits=limits, rules=_rules_in(chosen),
         store_deadline=chosen.store_deadline, state=chosen.state, keep_logs=chosen.keep_logs,
     )
+
+
+def store_in(chosen: argparse.Namespace) -> str:
+    """Returns the URL of the store. Raises ValueError, also if a password stands where other users read it."""
+    if chosen.store_file:
+        with open(chosen.store_file, encoding="utf-8") as file:
+            return file.readline().strip()
+    if chosen.store and password_in(chosen.store):
+        raise ValueError(
+            "other users of this host can read a password on a command line: put the URL into a file (--store-file)"
+            f" or into ${STORE}"
+        )
+    url: str = chosen.store or os.environ.get(STORE, "")
+    if not url:
+        raise ValueError(f"say where jobs are stored: --store, --store-file or ${STORE}")
+    return url
 
 
 async def _run_control(chosen: argparse.Namespace) -> int:

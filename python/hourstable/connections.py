@@ -161,7 +161,7 @@ class Door(asyncio.Protocol):
             secure = await self._loop.start_tls(
                 transport, self, tls, server_side=True, ssl_handshake_timeout=first
             )
-        except (OSError, asyncio.CancelledError):  # ssl.SSLError is one
+        except (Exception, asyncio.CancelledError):  # of TLS, of the connection, or of a transport that is closed
             secure = None
         if secure is None or secure.is_closing():  # asyncio does not tell the door of it
             transport.abort()

@@ -167,8 +167,8 @@ class Plane:
         try:
             await job.finish()
             await job.settle()
-        except (StoreFailed, Conflict, OSError) as error:
-            log.warning("%s was not settled: %s", job.name, error)
+        except Exception as error:
+            log.warning("%s was not settled: %r", job.name, error)
 
     async def _poll(self, every: float) -> None:
         """Looks what other planes wrote, where several share the store, and again at jobs that failed."""
@@ -195,13 +195,16 @@ class Plane:
     async def _look_at(self, name: str) -> None:
         """Reads what is stored of a job. One that fails keeps no other from being served."""
         try:
-            await (await self.followed(name)).job.refresh()
+            job = (await self.followed(name)).job
+            await job.refresh()
         except NoSuchJob:
             self.failures.forget(name)
         except Exception as error:
             self._fail(name, "read", error)
         else:
             self.failures.well(name, "read")
+            if not job.is_held:  # its callers may have gone to another plane
+                self.failures.lapse(name, "call", self._now() - self.limits.patience)
 
     def _fail(self, name: str, what: str, error: Exception) -> None:
         """Notes that a job failed: it is shown with why, and tried again."""

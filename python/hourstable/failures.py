@@ -7,12 +7,13 @@ from hourstable.store import StoreFailed
 
 
 class Failure(NamedTuple):
-    """Why a job does not work: the words of the last error, the monotonic seconds of the first one in a row, and how
-    many there were since."""
+    """Why a job does not work: the words of the last error, the monotonic seconds of the first one in a row, how many
+    there were since, and the seconds of the last one."""
 
     why: str
     since: float
     tries: int
+    last: float
 
     def value(self, now: float) -> dict[str, Any]:
         """Returns what `/overview` shows as `failed`. `seconds` says for how long the job has failed."""
@@ -29,8 +30,8 @@ class Failures:
     def failed(self, job: str, what: str, error: BaseException, now: float) -> Failure:
         """Takes an error of a job, and returns its failure."""
         of_job = self._failed.setdefault(job, {})
-        before = of_job.get(what, Failure("", now, 0))
-        made = of_job[what] = Failure(words_of(error), before.since, before.tries + 1)
+        before = of_job.get(what, Failure("", now, 0, now))
+        made = of_job[what] = Failure(words_of(error), before.since, before.tries + 1, now)
         return made
 
     def well(self, job: str, what: str) -> None:
@@ -40,6 +41,12 @@ class Failures:
             of_job.pop(what, None)
             if not of_job:
                 del self._failed[job]
+
+    def lapse(self, job: str, what: str, before: float) -> None:
+        """Takes that nothing is known any more of what failed before a time, as nobody tried it since."""
+        failure = self._failed.get(job, {}).get(what)
+        if failure is not None and failure.last < before:
+            self.well(job, what)
 
     def forget(self, job: str) -> None:
         """Forgets a job, which is no more."""

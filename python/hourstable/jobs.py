@@ -9,6 +9,7 @@ call restores a table from what is stored, as after a restart.
 
 import asyncio
 import json
+import logging
 import os
 from collections import OrderedDict, deque
 from collections.abc import Awaitable, Callable, Sequence
@@ -25,6 +26,7 @@ from hourstable.system import SYSTEM, System, make_folder
 from hourstable.table_calls import Call, Malformed, numbers_of, term_in, value_in
 from hourstable.tickets import Tickets, process_of
 
+log = logging.getLogger("hourstable.jobs")
 T = TypeVar("T")
 MOST_TOGETHER = 256  # calls that are stored by one write
 WORDS = ("skew", "guard", "bridge", "job", "numbers")
@@ -172,6 +174,9 @@ class Counters:
 
     def stored(self, what: str, seconds: float, failed: bool) -> None:
         """The store was asked."""
+
+    def internal_error(self, where: str) -> None:
+        """Something failed that nobody expected."""
 
 
 class Job:
@@ -472,6 +477,11 @@ class Job:
                     together = self._next_together()
                     if together:
                         await self._make(together)
+        except Exception as error:  # which nobody expected: no call is to wait for ever
+            log.exception("%s: calls are not made", self.name)
+            self._counters.internal_error("job")
+            for one in self._all_waiting():
+                one.fail(error)
         finally:
             self._working = None
 

@@ -23,7 +23,7 @@ from pathlib import Path
 from typing import Any
 
 from hourstable.segments import GrowingFile
-from hourstable.system import SYSTEM, System
+from hourstable.system import SYSTEM, System, make_folder
 
 ASSIGNERS, TASKS = 8, 64  # the most that a job may have
 CLERKS = 128  # as many as have a ticket process of their own
@@ -130,7 +130,7 @@ class Log:
         self._system, self._keep = system, keep
         self._today, self._day = today or partial(utc_day, system), ""
         self._file: GrowingFile | None = None
-        self.folder.mkdir(mode=0o700, parents=True, exist_ok=True)
+        make_folder(self.folder)
         self._turn_to(self._today())
 
     def append(self, *lines: str) -> None:

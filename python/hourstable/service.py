@@ -31,7 +31,7 @@ from hourstable.tickets import Tickets
 class Options:
     """What a control plane is started with. `docs/OPERATIONS.md` says what each word of the command does."""
 
-    store: str  # the URL
+    store: str = field(repr=False)  # the URL, which may have a password
     logs: Path
     host: str = "127.0.0.1"
     port: int = 0  # 0: any
@@ -39,7 +39,7 @@ class Options:
     shared: bool | None = None  # whether other planes use the store; None: if they may
     standby: float = 2.0  # seconds
     assigner: int = 1  # its number, 0 for none
-    secrets: list[str] = field(default_factory=list)
+    secrets: list[str] = field(default_factory=list, repr=False)
     tls: ssl.SSLContext | None = None
     limits: Limits = field(default_factory=Limits)
     rules: Hysteresis = field(default_factory=Hysteresis)

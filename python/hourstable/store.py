@@ -191,6 +191,25 @@ def after_swap(job: str, version: int, count: int) -> int:
     return version + 1
 
 
+def password_in(url: str) -> str:
+    """Returns the password in the URL of a store as it is written there, nothing if it has none. Raises ValueError if
+    it is not encoded, so that a part of it would count as something else."""
+    parts = urllib.parse.urlsplit(url)
+    name, at, _ = parts.netloc.rpartition("@")
+    beside = f"{parts.path}{parts.query}{parts.fragment}"
+    if "@" in name or (not at and "@" in beside and parts.netloc):
+        raise ValueError("the URL of the store has an @ that is not written as %40, perhaps in a password")
+    query = urllib.parse.parse_qsl(parts.query, keep_blank_values=True) if parts.scheme != "sqlite" else []
+    return name.partition(":")[2] or next((value for key, value in query if key == "password"), "")
+
+
+def without(password: str, text: str) -> str:
+    """Returns a text in which a password stands neither as it is written in a URL nor as it is meant."""
+    for word in {password, urllib.parse.unquote(password)} - {""}:
+        text = text.replace(word, "***")
+    return text
+
+
 def store_of(url: str, deadline: float = DEADLINE, system: System = SYSTEM) -> Store:
     """Returns the store of a URL, which is not yet open: sqlite:FILE, postgresql://.. as libpq reads
     it, etcd://HOST:PORT,.. of one or several members, or etcds://HOST:PORT,.. with
@@ -201,6 +220,7 @@ def store_of(url: str, deadline: float = DEADLINE, system: System = SYSTEM) -> S
         from hourstable.store_sqlite import SqliteStore
 
         return SqliteStore(rest, deadline, system)
+    password = password_in(url)
     if kind in ("postgresql", "postgres"):
         try:
             from hourstable.store_postgresql import PostgresqlStore
@@ -217,7 +237,7 @@ def store_of(url: str, deadline: float = DEADLINE, system: System = SYSTEM) -> S
         with suppress(ValueError):
             return etcd_of(urllib.parse.urlsplit(url), deadline, system)
     raise ValueError(
-        f"{url!r} is no store: sqlite:FILE, postgresql://.., etcd://HOST:PORT or etcds://HOST:PORT"
+        f"{without(password, url)!r} is no store: sqlite:FILE, postgresql://.., etcd://HOST:PORT or etcds://HOST:PORT"
     )
 
 

@@ -173,7 +173,7 @@ class _Kept:
 
     def __init__(self, path: Path, boot: bytes, system: System) -> None:
         self.path, self.boot, self.system = path, boot, system
-        self.file = system.open(path, os.O_RDWR | os.O_CREAT | os.O_CLOEXEC, 0o644)
+        self.file = system.open(path, os.O_RDWR | os.O_CREAT | os.O_CLOEXEC, 0o600)
         try:
             fcntl.flock(self.file, fcntl.LOCK_EX | fcntl.LOCK_NB)
             self._open()

@@ -107,6 +107,10 @@ class Handlers:
             content.feed_data(asked.body)
         content.feed_eof()
         task: Any = asyncio.current_task()
-        return web.Request(
+        has_left, asked.peer.transport = asked.peer.transport is None, asked.peer
+        request = web.Request(
             message, content, protocol, protocol, task, loop, client_max_size=(1 << 20) + 1
         )
+        if has_left:  # while the request was on its way
+            asked.peer.transport = None
+        return request

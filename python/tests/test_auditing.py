@@ -16,7 +16,7 @@ needed.library()
 
 from hourstable import logs  # noqa: E402
 from hourstable.auditing import Audit, gaps_of  # noqa: E402
-from hourstable.command import main  # noqa: E402
+from hourstable.command import main, options_of, parser  # noqa: E402
 from hourstable.plans import Hysteresis  # noqa: E402
 from hourstable.service import ControlPlane, Options  # noqa: E402
 from hourstable.system import System  # noqa: E402
@@ -220,7 +220,9 @@ async def test_a_plane_removes_its_logs_after_days(tmp_path: Path, capfd: Said) 
     assert main(["audit", str(folder)]) == 1
     assert "was removed and not audited" in capfd.readouterr().out
     store = ["--store", f"sqlite:{tmp_path}/jobs", "--logs", f"{tmp_path}/logs", "--listen", "127.0.0.1:0"]
-    assert main(["control", *store, "--keep-logs", "0"]) == 2
+    assert options_of(parser().parse_args(["control", *store, "--keep-logs", "9"])).keep_logs == 9
+    with pytest.raises(ValueError, match="--keep-logs"):
+        options_of(parser().parse_args(["control", *store, "--keep-logs", "0"]))
 
 
 async def test_a_wrong_log_is_not_removed(tmp_path: Path, capfd: Said) -> None:

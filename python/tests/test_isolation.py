@@ -18,6 +18,8 @@ import needed
 
 needed.library()
 
+from hourstable.failures import Failures  # noqa: E402
+from hourstable.limits import Limits  # noqa: E402
 from hourstable.service import ControlPlane  # noqa: E402
 from hourstable.state import state_folder  # noqa: E402
 from hourstable.store import Damaged, Life, Store, StoreFailed  # noqa: E402
@@ -260,6 +262,38 @@ async def test_calls_on_a_full_disk(file: Store, tmp_path: Path) -> None:
     assert len(numbers) == int(json.loads(stored.kept)["value"]["granted"])
 
 
+async def test_a_failure_whose_callers_went_to_another_plane_lapses(file: Store, tmp_path: Path) -> None:
+    system, limits = Full(), Limits(patience=0.5)
+    async with running(file, tmp_path / "logs", limits=limits, system=system) as (_, caller):
+        await begun(caller)
+        system.is_full = True
+        assert (await caller.grant(1)).status == 503
+        assert list(await failed(caller)) == ["shop"]
+
+        async def is_well() -> bool:
+            return await failed(caller) == {}
+
+        await until(is_well)
+
+
+def test_failures() -> None:
+    failures = Failures()
+    for at, what in enumerate(("read", "call", "read")):
+        failures.failed("shop", what, OSError(5, "broken"), float(at))
+    assert failures.of("shop") == ("[Errno 5] broken", 0.0, 2, 2.0) and failures.of("cart") is None
+    first = failures.of("shop")
+    assert first is not None
+    assert first.value(4.04) == {"why": "[Errno 5] broken", "seconds": 4.0, "tries": 2}
+    failures.lapse("shop", "call", 1.0)
+    failures.well("shop", "read")
+    assert failures.of("shop") == ("[Errno 5] broken", 1.0, 1, 1.0) and list(failures) == ["shop"]
+    failures.lapse("shop", "call", 1.1)
+    assert failures.of("shop") is None and "shop" not in failures
+    failures.failed("shop", "read", KeyError("x"), 5.0)
+    failures.forget("shop")
+    assert list(failures) == []
+
+
 async def test_a_disk_on_which_tickets_cannot_be_kept(file: Store, tmp_path: Path) -> None:
     system = Full()
     async with running(file, tmp_path / "logs", system=system) as (plane, caller):
@@ -310,13 +344,18 @@ async def test_a_job_that_cannot_be_loaded_leaves_no_file_open(file: Store, tmp_
     store, system = WithoutLives(file), Counting()
     given: Any = store
     async with running(given, tmp_path / "logs", system=system) as (_, caller):
-        before = system.is_open
         for _ in range(5):
             assert (await caller.get()).status == 503
-        assert system.is_open == before
+
+        async def are_open() -> bool:  # the poller tries it, too
+            return system.is_open == expected
+
+        expected = 1  # the file of tickets
+        await until(are_open)
         store.fails = False
         assert (await caller.get()).status == 200
-        assert system.is_open == before + 1
+        expected = 2
+        await until(are_open)
 
 
 class Surprising:

@@ -16,6 +16,7 @@ import needed
 needed.library()
 
 from hourstable import logs  # noqa: E402
+from hourstable.assigner import AssignerOfJobs  # noqa: E402
 from hourstable.client import Router  # noqa: E402
 from hourstable.plans import Hysteresis  # noqa: E402
 from hourstable.service import ControlPlane, Options  # noqa: E402
@@ -122,6 +123,28 @@ async def test_whether_a_plane_is_idle(tmp_path: Path) -> None:
         assert not plane.idle() and not job.idle()
         assert (await answer).refusal is not None  # nothing is committed
         await until(plane.idle)
+
+
+async def test_an_assigner_that_fails_begins_again(
+    tmp_path: Path, monkeypatch: pytest.MonkeyPatch
+) -> None:
+    runs, run = [], AssignerOfJobs.run
+
+    async def fails_first(self: AssignerOfJobs) -> None:
+        runs.append(self)
+        if len(runs) == 1:
+            raise KeyError("what nobody expects")
+        await run(self)
+
+    monkeypatch.setattr(AssignerOfJobs, "run", fails_first)
+    async with ControlPlane(options(tmp_path)) as running:
+        plane = running.plane
+        assert plane is not None
+        await until(lambda: len(runs) == 2)
+        assert plane.supervisor.errors == {"assigner": 1} and plane.supervisor.ended() == []
+        assert b'hourstable_internal_errors_total{where="assigner"} 1.0' in plane.metrics.text([])
+        async with Task(f"http://127.0.0.1:{running.port}", "shop", 1, policy=POLICY, logs=tmp_path / "t") as task:
+            await until(lambda: task.renewed.times >= 1)
 
 
 async def test_tasks_and_routers_over_a_transport(tmp_path: Path) -> None:
