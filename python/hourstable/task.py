@@ -411,11 +411,12 @@ class Task:
         self._drop_life()
         backoff = Backoff(self._random.random, most=self._most)
         while True:
+            must = 0.0  # seconds that pass whatever happens
             try:
                 seconds = await self._step()
                 backoff.reset()
             except Unreachable as why:
-                self._is_cut_off = True
+                self._is_cut_off, must = True, why.least
                 seconds = self._wait_after(why, backoff)
             except ClockBehind as behind:
                 self._note_behind(str(behind))
@@ -425,7 +426,9 @@ class Task:
                 self._over.set()
                 return
             self._notice()
-            if seconds > 0:
+            if must > 0:
+                await asyncio.sleep(seconds)
+            elif seconds > 0:
                 await self._pause(seconds)
 
     def _wait_after(self, why: Unreachable, backoff: Backoff) -> float:

@@ -23,11 +23,14 @@ class Server:
 
     def __init__(self) -> None:
         self.asked = 0
+        self.ends = asyncio.Event()
         self.answers: Callable[[], Awaitable[web.StreamResponse]] = fine
         self.url = ""
 
     async def answer(self, _: web.Request) -> web.StreamResponse:
         self.asked += 1
+        if self.answers is never:
+            await self.ends.wait()
         return await self.answers()
 
 
@@ -36,8 +39,7 @@ async def fine() -> web.StreamResponse:
 
 
 async def never() -> web.StreamResponse:
-    await asyncio.Event().wait()
-    raise AssertionError
+    return web.Response(status=503)  # at the end of the test
 
 
 async def stands_by() -> web.StreamResponse:
@@ -55,6 +57,8 @@ async def server() -> AsyncIterator[Server]:
     try:
         yield made
     finally:
+        made.ends.set()
+        await asyncio.sleep(0.01)
         await runner.cleanup()
 
 

@@ -154,9 +154,11 @@ async def test_after_a_429_a_second_passes(plane: Plane, tmp_path: Path) -> None
     async with Task(plane.url, JOB, 1, logs=tmp_path, policy=POLICY, timeout=2.0) as task:
         await until(lambda: task.served() == LOWER)
         plane.fault = fault
+        await until(lambda: len(asked) >= 2)
+        plane.propose(2, [(0, 1)])  # which else a task hears at once
         await until(lambda: len(asked) >= 4)
         plane.fault = None
-        await until(lambda: task.served() == LOWER)
+        await until(lambda: task.served() != [])
     for sooner, later in zip(asked, asked[1:]):
         assert later - sooner > 0.95
 
