@@ -37,6 +37,11 @@ class RetryBudget:
         self._left -= 1
         return True
 
+    def give_back(self) -> None:
+        """Gives a right back that was taken, as after a call that was then done: where things go well again, nobody
+        waits for the budget."""
+        self._left = min(self._most, self._left + 1)
+
 
 class Planes:
     """The planes of a caller, by their places in `urls`.

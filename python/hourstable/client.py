@@ -159,8 +159,8 @@ class Router:
 
         `attempt(task)` raises Again if it was denied or its task did not answer. It is then made
         again, at an owner as known then, for up to `patience` seconds and at most as often as
-        waits that grow allow. Attempts that are made again at one task are at most a tenth of all
-        calls, and ten more a second. Raises the last Again, or NoOwner.
+        waits that grow allow. Of the attempts that are made again at one task those that raise Again
+        are at most a tenth of all calls, and ten more a second. Raises the last Again, or NoOwner.
         """
         backoff = Backoff(self._random.random, least=0.01, most=0.5)
         end = self._system.monotonic() + patience
@@ -170,9 +170,13 @@ class Router:
         while True:
             try:
                 place = self._generation, self.pick(key)
-                if place not in tried or self._budget.take():
+                is_again = place in tried
+                if not is_again or self._budget.take():
                     tried.add(place)
-                    return await self._attempt(place[1], attempt)
+                    made = await self._attempt(place[1], attempt)
+                    if is_again:
+                        self._budget.give_back()
+                    return made
             except (Again, NoOwner) as why:
                 failed = why
             left = end - self._system.monotonic()

@@ -17,6 +17,7 @@ from typing import Any
 from hourstable.waiting import Backoff
 
 LEAST, MOST = 0.1, 5.0  # seconds before a loop begins again
+CLOSING = 5.0  # seconds that what is cancelled has to end
 Begin = Callable[[], Coroutine[Any, Any, None]]
 
 
@@ -71,11 +72,14 @@ class Supervisor:
         return sorted(where for loop, where in self._loops.items() if loop.done())
 
     async def close(self) -> None:
-        """Cancels all that runs, and returns once it has ended. A caller that is watched itself goes on."""
+        """Cancels all that runs, and returns once it has ended, or after a few seconds. A caller that is watched
+        itself goes on."""
         running = {*self._loops, *self._others} - {asyncio.current_task()}
         for one in running:
             one.cancel()
-        await asyncio.gather(*running, return_exceptions=True)
+        late = (await asyncio.wait(running, timeout=CLOSING))[1] if running else ()
+        for one in late:
+            self._log.error("%s: it was cancelled, and does not end: %s", self.name, one)
 
     async def _watch(self, where: str, begin: Begin) -> None:
         loop, backoff = asyncio.get_running_loop(), Backoff(self._random, self._least, self._most)

@@ -152,6 +152,26 @@ async def test_attempts_at_one_task_are_a_tenth(tmp_path: Path, monkeypatch: pyt
     await plane.stop()
 
 
+async def test_a_task_that_goes_on_is_not_waited_for(tmp_path: Path, monkeypatch: pytest.MonkeyPatch) -> None:
+    """Fifty calls wait for a task, and one attempt is left: those that succeed take nothing from the others."""
+    plane = await Plane(tmp_path).start()
+    is_well = [False]
+
+    async def attempt(task: int) -> int:
+        if not is_well[0]:
+            raise Again("it does not answer")
+        return task
+
+    async with Router(plane.url, JOB) as router:
+        monkeypatch.setattr(router, "owners", lambda key: Found(1, [1]))
+        sent = asyncio.gather(*(router.send("hello", attempt, patience=60.0) for _ in range(50)))
+        await asyncio.sleep(0.5)
+        is_well[0] = True
+        router._budget._left, router._budget._a_second = 1.0, 0.0
+        assert await asyncio.wait_for(sent, 30) == [1] * 50
+    await plane.stop()
+
+
 async def test_another_owner_is_tried_at_no_cost(tmp_path: Path, monkeypatch: pytest.MonkeyPatch) -> None:
     plane = await Plane(tmp_path).start()
     found = [Found(1, [1])]

@@ -118,6 +118,28 @@ async def test_what_is_closed_has_ended() -> None:
     assert sorted(ended) == ["loop", "work"] and supervisor.errors == {}
 
 
+async def test_what_cannot_be_cancelled_holds_up_no_close(
+    monkeypatch: pytest.MonkeyPatch, caplog: pytest.LogCaptureFixture
+) -> None:
+    ends = asyncio.Event()
+
+    async def goes_on() -> None:
+        while not ends.is_set():
+            try:
+                await ends.wait()
+            except asyncio.CancelledError:
+                pass
+
+    monkeypatch.setattr("hourstable.supervisor.CLOSING", 0.1)
+    supervisor = made()
+    running = supervisor.spawn("on_lose", goes_on())
+    await asyncio.sleep(0)
+    await asyncio.wait_for(supervisor.close(), 20)
+    assert not running.done() and "does not end" in caplog.text
+    ends.set()
+    await running
+
+
 async def test_a_loop_may_close_its_supervisor() -> None:
     supervisor = made()
     await asyncio.wait_for(supervisor.watch("loop", supervisor.close), 20)

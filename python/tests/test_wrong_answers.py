@@ -81,7 +81,7 @@ def unless_created(answers: Answers) -> Answers:
     return answer
 
 
-@pytest.mark.parametrize("what", WRONG)
+@pytest.mark.parametrize("what", ["an old secret", "a page", "no number of a reading"])
 async def test_a_wrong_answer_ends_no_task(
     what: str, plane: Plane, tmp_path: Path, caplog: pytest.LogCaptureFixture
 ) -> None:
@@ -105,7 +105,33 @@ async def test_a_wrong_answer_ends_no_task(
     await asyncio.wait_for(waiting, 20)  # it has ended with the task
 
 
-@pytest.mark.parametrize("what", ["an old secret", "a page", "a torn answer", "a plane at its limit"])
+async def test_all_wrong_answers_together_end_no_task(plane: Plane, tmp_path: Path) -> None:
+    """Each call is answered by the next one of them, until each was the answer to two calls for a lease."""
+    calls: dict[str, list[str]] = {}
+
+    async def fault(request: web.Request) -> web.StreamResponse | None:
+        call = request.path.rpartition("/")[2]
+        if call not in ("grant", "phase", "loads"):
+            return None
+        known = calls.setdefault(call, [])
+        known.append(list(WRONG)[len(known) % len(WRONG)])
+        return await WRONG[known[-1]][0](request)
+
+    async with Task(plane.url, JOB, 1, logs=tmp_path, policy=POLICY, timeout=2.0, report=0.1) as task:
+        await until(lambda: task.served() == LOWER)
+        plane.fault = fault
+        await until(lambda: len(calls.get("grant", [])) >= 2 * len(WRONG), 60.0)
+        plane.fault = None
+        before = task.renewed.times
+        await until(lambda: task.renewed.times >= before + 2)
+        assert await ground(task, "hello") == ""
+        text = task.metrics.text()
+    assert counted(text, "hourstable_internal_errors_total") == 0
+    for word in {word for _, word in WRONG.values()}:
+        assert counted(text, "hourstable_control_wrong_answers_total", answer=word) >= 2, word
+
+
+@pytest.mark.parametrize("what", ["an old secret", "a torn answer"])
 async def test_another_plane_is_asked(what: str, plane: Plane, tmp_path: Path) -> None:
     answers, word = WRONG[what]
     async with stranger(answers) as url:
@@ -128,7 +154,7 @@ async def test_the_log_says_what_to_mend(
     assert len(told) == 1 and url in told[0] and "--secret-file" in told[0]
 
 
-@pytest.mark.parametrize("what", ["an old secret", "a page", "null", "a torn answer", "another object"])
+@pytest.mark.parametrize("what", ["an old secret", "another object"])
 async def test_a_wrong_answer_ends_no_router(what: str, plane: Plane, tmp_path: Path) -> None:
     answers, word = WRONG[what]
     plane.fault = answers
