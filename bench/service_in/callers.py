@@ -35,11 +35,12 @@ class Plane:
         with urllib.request.urlopen(request, timeout=30) as answer:
             return json.loads(answer.read())
 
-    def begin(self, job: str, policy: object) -> None:
-        """Creates a job, and lets task 1 own all keys."""
+    def begin(self, job: str, policy: object, slices: int = 1, tasks: int = 1) -> None:
+        """Creates a job, and lets tasks own equal slices in turn."""
         self.ask("PUT", f"/jobs/{job}", policy)
         term = self.ask("POST", f"/jobs/{job}/take", {"assigner": 1})["number"]
-        value = {"generation": "1", "slices": [["0", [1]]]}
+        starts = [((1 << 63) * at // slices, 1 + at % tasks) for at in range(slices)]
+        value = {"generation": "1", "slices": [[str(start), [task]] for start, task in starts]}
         message = {"job": job, "type": "assignment", "value": value, "version": 2}
         self.ask("POST", f"/jobs/{job}/propose?term={term}", message)
         self.ask("POST", f"/jobs/{job}/commit", {"term": term})

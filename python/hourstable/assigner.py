@@ -7,13 +7,19 @@ the job lease chooses which of them acts.
 import asyncio
 import logging
 from collections.abc import Callable
+from functools import partial
 from typing import Any
 
 from hourstable import library
+from hourstable.context import about
 from hourstable.desk import Desk, Told, Unreachable
 from hourstable.library import JobTerm, Phase, Refused
 from hourstable.plans import Hysteresis, Planner
+from hourstable.supervisor import Supervisor
+from hourstable.system import SYSTEM, System
 
+ALL = "all jobs"
+THINK = 2.0  # seconds after which loads are looked at again, if nothing else changed
 log = logging.getLogger("hourstable.assigner")
 
 
@@ -30,6 +36,9 @@ class JobAssigner:
         self._lease: library.Assigner | None = None
         self._first_seen: int | None = None  # when a task was alive first
         self._asked_commit = 0
+        self._thought_of: object = None  # what the last thought was about
+        self._think_at = 0
+        self._wanted: bytes | None = None
 
     async def step(self) -> float:
         """Does what is next, and returns after how many seconds to look again. Raises
@@ -55,22 +64,31 @@ class JobAssigner:
         return 0.25
 
     async def _plan(self, status: dict[str, Any]) -> bytes | None:
+        """Returns the assignment that is wanted, None if the committed one is good enough. It thinks about it, in a
+        thread, when something changed, and else every few seconds, for the loads."""
         tasks = sorted(set(status["alive"]) - set(status["draining"]))
+        now = self._local()
         if not tasks:
             self._first_seen = None
             return None
-        now = self._local()
         if self._first_seen is None:
             self._first_seen = now
         if not status["committed"] and now - self._first_seen < self._rules.settle * 1000:
             return None  # others may begin at the same time
+        since = status["since_commit"]
+        known = status["committed"], tasks, since >= self._rules.settle, since >= self._rules.rest
+        if known != self._thought_of or now >= self._think_at:
+            self._wanted = await self._think(status, tasks)
+            self._thought_of, self._think_at = known, now + int(THINK * 1000)
+        return self._wanted
+
+    async def _think(self, status: dict[str, Any], tasks: list[int]) -> bytes | None:
         assignment = await self._desk.assignment(self.job) if status["committed"] else None
         if status["committed"] and assignment is None:
             return None
-        reported = [(int(low), int(high), load) for low, high, load in
-                    await self._desk.loads(self.job)]
+        reported = await self._desk.loads(self.job)
         policy, since = status["policy"], status["since_commit"]
-        return self._planner.wanted(assignment, policy, tasks, reported, since)
+        return await asyncio.to_thread(self._planner.wanted, assignment, policy, tasks, reported, since)
 
     async def _take(self, status: dict[str, Any]) -> float:
         """Takes the job lease; if its last term is of this assigner, renews it first, so that a
@@ -141,32 +159,48 @@ class JobAssigner:
 
 
 class AssignerOfJobs:
-    """The assigners of all jobs of a desk."""
+    """The assigners of all jobs of a desk. `count(where)` is told of what nobody expected."""
 
     def __init__(
-        self, number: int, desk: Desk, local: Callable[[], int], rules: Hysteresis | None = None
+        self, number: int, desk: Desk, local: Callable[[], int], rules: Hysteresis | None = None,
+        count: Callable[[str], object] | None = None, system: System = SYSTEM,
     ) -> None:
         self._number, self._desk, self._local = number, desk, local
         self._rules = rules or Hysteresis()
+        self._supervisor = Supervisor(f"assigner {number}", log, count, system.random().random)
         self._running: dict[str, asyncio.Task[None]] = {}
+        self._due: dict[str, int] = {}  # by the local clock, when the next step of a job is
+
+    def late(self, seconds: float) -> list[str]:
+        """Returns the jobs of which a step is due for so long."""
+        before = self._local() - int(seconds * 1000)
+        return sorted(job for job, due in self._due.items() if due < before)
 
     async def run(self) -> None:
         """Runs until it is cancelled."""
         try:
-            while True:
-                try:
-                    for job in await self._desk.jobs():
-                        if job not in self._running:
-                            self._running[job] = asyncio.create_task(self._follow(job))
-                except Unreachable as error:
-                    log.warning("%s", error)
-                await asyncio.sleep(0.5)
+            await self._supervisor.watch("jobs of the assigner", self._follow_jobs)
         finally:
-            for task in self._running.values():
-                task.cancel()
-            await asyncio.gather(*self._running.values(), return_exceptions=True)
+            await self._supervisor.close()
+
+    async def _follow_jobs(self) -> None:
+        while True:
+            try:
+                for job in await self._desk.jobs():
+                    if job not in self._running:
+                        self._running[job] = self._supervisor.watch("assigner", partial(self._follow, job))
+                after = 0.5
+            except Unreachable as error:
+                log.warning("%s", error)
+                after = max(0.5, error.least)
+            self._due[ALL] = self._local() + int(after * 1000)
+            await asyncio.sleep(after)
 
     async def _follow(self, job: str) -> None:
+        with about(job=job, caller=f"assigner {self._number}"):
+            await self._assign(job)
+
+    async def _assign(self, job: str) -> None:
         assigner = JobAssigner(job, self._number, self._desk, self._local, self._rules)
         try:
             while True:
@@ -174,11 +208,12 @@ class AssignerOfJobs:
                     after = await assigner.step()
                 except Unreachable as error:
                     log.info("%s: %s", job, error)
-                    after = 0.5
-                except Exception:
-                    log.exception("%s: the assigner begins anew", job)
+                    after = max(0.5, error.least)
+                except Exception as error:
+                    self._supervisor.caught("assigner", error, f"it begins anew for {job}")
                     assigner.close()
                     after = 1.0
+                self._due[job] = self._local() + int(after * 1000)
                 await asyncio.sleep(after)
         finally:
             assigner.close()

@@ -1,34 +1,56 @@
 """Calls of the control planes of a job, by HTTP: each goes to one that answers."""
 
 import json
+import logging
 import ssl
 from collections.abc import Callable, Mapping, Sequence
 from types import TracebackType
-from typing import Any, NamedTuple
+from typing import Any, NamedTuple, TypeVar
 from urllib.parse import quote
 
 import aiohttp
 
+from . import beats
+from .asked import Planes
+from .library import Refused
+from .system import SYSTEM, System
 from .tickets import HEADER, Tickets
 from .transport import Fetched, Http, Transport
-from .waiting import within
+from .waiting import unless, within
 
 READING = "Hourstable-Reading"
 TIMEOUT = 2.0  # seconds that a call may take
 WAIT = 30.0  # seconds that a waiting GET takes if nothing happens
+LIMITED = 1.0  # seconds that pass at least after a 429 before a call is made again
+TOLD_EVERY = 60.0  # seconds between two lines of the log about one trouble of a plane
+READINGS = 1 << 62  # those of a table are below it
+DOWN = (404, 500, 502, 503, 504)  # statuses of a plane that cannot do the call now; the job may be created later
+UNREADABLE = "unreadable"
+MEND = {
+    "400": "look whether it runs another version, or whether its or this host's real time is wrong",
+    "401": "give it the secret of its callers (--secret-file), or this caller the secret of the planes (secret=)",
+    "403": "let this caller in where the plane or a proxy before it keeps it out",
+    "429": "look at hourstable_limited_total of the plane; --grants and --most-connections raise its limits",
+    "ticket": "see to the real time of its host, and of this one",
+    UNREADABLE: "look what listens there: a proxy, or something that is no control plane",
+}
+OTHER = "other"  # any other status
+T = TypeVar("T")
+Body = bytes | Mapping[str, object] | None
 
 
 class Unreachable(Exception):
-    """No control plane answered. `again` says after how many seconds to try again."""
+    """No control plane did the call. A later one may be done: after `again` seconds if the caller has the time, and
+    never before `least` seconds. `status` is that of the last answer, 0 if there was none."""
 
-    def __init__(self, why: str, again: float = 0.0) -> None:
+    def __init__(self, why: str, again: float = 0.0, status: int = 0) -> None:
         super().__init__(why)
-        self.again = again
+        self.again, self.status = again, status
+        self.least = LIMITED if status == 429 else 0.0
 
 
 class Rejected(Exception):
-    """A control plane rejects a request for what it is: a wrong secret, a malformed body, another
-    policy. It will do so again."""
+    """What was asked for cannot be had, and no later call mends it: the job has another policy, or is not there."""
 
     def __init__(self, status: int, why: str) -> None:
         super().__init__(f"{status}: {why}")
@@ -44,20 +66,47 @@ class Answer(NamedTuple):
     sent: int  # the local reading before this request was sent
 
     def value(self) -> dict[str, Any]:
-        """Returns the body, which is an object."""
+        """Returns the body, which is an object. Raises ValueError if it is none."""
         value = json.loads(self.body)
         if not isinstance(value, dict):
             raise ValueError("an answer is no object")
         return value
 
 
+class Wrong(Unreachable):
+    """A plane answered what a plane does not answer to a right call. `word` is the status, `unreadable`, `ticket` or
+    `other`."""
+
+    def __init__(self, why: str, word: str, again: float = 0.0, status: int = 0) -> None:
+        super().__init__(why, again, status)
+        self.word = word
+
+
+class Troubles:
+    """What planes answer wrongly: each is counted, and told with what to mend, once a minute for each plane."""
+
+    def __init__(
+        self, name: str, log: logging.Logger, count: Callable[[str], object], now: Callable[[], float]
+    ) -> None:
+        self._name, self._log, self._count, self._now = name, log, count, now
+        self._told: dict[tuple[str, str], float] = {}
+
+    def note(self, url: str, wrong: Wrong) -> None:
+        self._count(wrong.word)
+        key, now = (url, wrong.word), self._now()
+        if now - self._told.get(key, -TOLD_EVERY) >= TOLD_EVERY:
+            self._told[key] = now
+            mend = MEND.get(wrong.word, MEND[UNREADABLE])
+            self._log.warning("%s: %s: %s", self._name, wrong, mend)
+
+
 class Control:
     """The control planes of a job, of which one answers at a time.
 
-    A call goes to the one that answered last. At a failed connection, an answer that does not come
-    in time or a 503 it goes to the next one, each once. A request that is sent again is another
-    request, with a `sent` of its own. `transport` brings requests to planes in place of HTTP by
-    `tls`; its owner closes it.
+    A call goes to the one that answered last. At a failed connection, an answer that does not come in time or is none
+    of a plane, a 401, 403, 429 or 503 it goes to the next one, each once, as far as the retry budget allows. A
+    request that is sent again is another request, with a `sent` of its own. `transport` brings requests to planes in
+    place of HTTP by `tls`; its owner closes it. `troubles` is told of wrong answers.
     """
 
     def __init__(
@@ -71,47 +120,77 @@ class Control:
         tls: ssl.SSLContext | None = None,
         timeout: float = TIMEOUT,
         transport: Transport | None = None,
+        troubles: Troubles | None = None,
+        system: System = SYSTEM,
     ) -> None:
-        self.urls = [urls] if isinstance(urls, str) else list(urls)
-        if not self.urls:
-            raise ValueError("there is no control plane")
+        given = [urls] if isinstance(urls, str) else list(urls)
+        self.urls = [url.rstrip("/") for url in given]
+        self.planes = Planes(self.urls, system.monotonic, timeout)
         self.job, self.tickets, self.local_clock = job, tickets, local_clock
         self.timeout = timeout
-        self._headers = {"Content-Type": "application/json"}
+        self._headers = {"Content-Type": "application/json", beats.HEADER: beats.TAKES}
         if secret is not None:
             self._headers["Authorization"] = f"Bearer {secret}"
         self._own = Http(tls)
         self._transport = transport or self._own
-        self._at = 0
+        self._troubles = troubles
+
+    def limit(self, timeout: float) -> None:
+        """Lets a call take no longer than these seconds from now on, or as long as before if that is less."""
+        self.timeout = self.planes.rest = min(self.timeout, timeout)
 
     async def call(
-        self,
-        method: str,
-        path: str = "",
-        body: bytes | Mapping[str, object] | None = None,
-        *,
-        timeout: float | None = None,
+        self, method: str, path: str = "", body: Body = None, *, timeout: float | None = None
     ) -> Answer:
-        """Makes a call of the job. Raises Unreachable or Rejected."""
+        """Makes a call of the job. Raises Unreachable."""
+        return await self.read(lambda answer: answer, method, path, body, timeout)
+
+    async def read(
+        self, reads: Callable[[Answer], T], method: str, path: str = "", body: Body = None,
+        timeout: float | None = None,
+    ) -> T:
+        """Makes a call of the job, and returns what `reads` makes of the answer. With a timeout it is a call that
+        waits, which is made at another plane once this one is silent to other calls. Raises Unreachable.
+
+        An answer of which `reads` raises ValueError, KeyError, TypeError or Refused is none of a plane, and the call
+        is made at the next one.
+        """
         data = body if body is None or isinstance(body, bytes) else json.dumps(body).encode()
-        failed = Unreachable("there is no control plane")
-        for _ in self.urls:
+        failed, least = Unreachable("there is no control plane"), 0.0
+        for at in self.planes.tries():
+            url = f"{self.planes.urls[at]}/jobs/{quote(self.job, safe='')}{path}"
             try:
-                return await self._try(method, path, data, timeout or self.timeout)
+                made = _read(reads, await self._try(at, method, url, data, timeout), url)
             except Unreachable as why:
-                failed = why
-                self._at = (self._at + 1) % len(self.urls)
+                self.planes.failed(at, is_silent=not why.status)
+                self._note(url, why)
+                failed, least = why, max(least, why.least)
+            else:
+                self.planes.answered(at)
+                return made
+        failed.least = least
         raise failed
 
-    async def _try(self, method: str, path: str, body: bytes | None, timeout: float) -> Answer:
-        url = f"{self.urls[self._at]}/jobs/{quote(self.job, safe='')}{path}"
-        sent = self.local_clock()
+    def _note(self, url: str, why: Unreachable) -> None:
+        if isinstance(why, Wrong) and self._troubles is not None:
+            self._troubles.note(url.partition("/jobs/")[0], why)
+
+    async def _try(
+        self, at: int, method: str, url: str, body: bytes | None, timeout: float | None
+    ) -> Answer:
+        sent, fetching = self.local_clock(), self._fetch(method, url, body)
         try:
-            status, headers, found = await within(timeout, self._fetch(method, url, body))
-            self.tickets.observe_text(headers.get(HEADER))
+            if timeout is None:
+                status, headers, found = await within(self.timeout, fetching)
+            else:  # a call that waits
+                status, headers, found = await within(timeout, unless(self.planes.left(at), fetching))
         except (aiohttp.ClientError, TimeoutError, OSError, ValueError) as why:
             raise Unreachable(f"{url}: {type(why).__name__} {why}".rstrip()) from why
-        return _taken(status, headers, found, sent)
+        try:
+            self.tickets.observe_text(headers.get(HEADER))
+        except ValueError as why:  # the answer counts all the same
+            self._note(url, Wrong(f"{url}: {why}", "ticket"))
+        return _taken(url, status, headers, found, sent)
 
     async def _fetch(self, method: str, url: str, body: bytes | None) -> Fetched:
         headers = {**self._headers, HEADER: str(self.tickets.draw())}
@@ -133,37 +212,38 @@ class Control:
         await self.close()
 
 
-def _taken(status: int, headers: Mapping[str, str], body: bytes, sent: int) -> Answer:
+def _read(reads: Callable[[Answer], T], answer: Answer, url: str) -> T:
+    """Returns what `reads` makes of an answer. Raises Wrong."""
+    try:
+        return reads(answer)
+    except (ValueError, LookupError, TypeError, RecursionError, Refused) as why:
+        text = f"{url}: an answer of {answer.status} that is none of a control plane: {type(why).__name__} {why}"
+        raise Wrong(text, UNREADABLE, status=answer.status) from why
+
+
+def _taken(url: str, status: int, headers: Mapping[str, str], body: bytes, sent: int) -> Answer:
     """Returns the answer of a response, or raises what it means."""
-    why = body[:200].decode("utf-8", "replace")
-    if status in (404, 429, 500, 502, 503, 504):  # at a 404 the job may be created later
-        raise Unreachable(f"{status}: {why}", _seconds(headers.get("Retry-After")))
-    if status != 409 and status >= 300:
-        raise Rejected(status, why)
+    text = f"{url}: {status} {body[:200].decode('utf-8', 'replace')}"
+    again = seconds_in(headers.get("Retry-After"))
+    if status in DOWN:
+        raise Unreachable(text, again, status)
+    if status != 409 and not 200 <= status <= 204:
+        raise Wrong(text, str(status) if str(status) in MEND else OTHER, again, status)
     reading = headers.get(READING)
+    if reading is not None and not is_reading(reading):
+        raise Wrong(f"{url}: the reading {reading[:40]!r} is none of a table", UNREADABLE, status=status)
     return Answer(status, body, None if reading is None else int(reading), sent)
 
 
-def _seconds(text: str | None) -> float:
+def is_reading(text: str) -> bool:
+    """Whether a header is a reading of a table."""
+    return text.isascii() and text.isdigit() and len(text) <= 19 and int(text) < READINGS
+
+
+def seconds_in(text: str | None) -> float:
+    """Returns the seconds of a header Retry-After, at most a minute, 0 if it has none."""
     try:
-        return min(max(float(text or "0"), 0.0), 60.0)
+        seconds = float(text or "0")
     except ValueError:
         return 0.0
-
-
-class Backoff:
-    """How long to wait after failures: longer at each, up to `most` seconds, and at random, so that
-    many that failed at once do not try again at once."""
-
-    def __init__(self, random: Callable[[], float], least: float = 0.05, most: float = 2.0) -> None:
-        self._random, self._least, self._most = random, least, most
-        self._next = least
-
-    def reset(self) -> None:
-        """Forgets the failures."""
-        self._next = self._least
-
-    def seconds(self, at_least: float = 0.0) -> float:
-        """Returns how long to wait after another failure."""
-        limit, self._next = self._next, min(2 * self._next, self._most)
-        return max(at_least, limit * (0.5 + 0.5 * self._random()))
+    return min(seconds, 60.0) if seconds > 0 else 0.0

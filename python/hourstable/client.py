@@ -13,18 +13,25 @@ import os
 import ssl
 from collections import Counter as Counts
 from collections.abc import Awaitable, Callable, Sequence
+from functools import partial
 from typing import Any, TypeVar
 
-from .calls import TIMEOUT, WAIT, Backoff, Control, Unreachable
+from . import replies
+from .asked import RetryBudget
+from .caller_metrics import RouterMetrics
+from .calls import TIMEOUT, WAIT, Control, Troubles, Unreachable
 from .clock import local_clock as local_clock_of
+from .kept_log import KeptLog
 from .library import CALLS, Clerk, Found, LoggedCall, Refused, log_line, owners_of, slice_key
 from .logs import Log, folder_of, job_line
+from .supervisor import Supervisor
 from .system import SYSTEM, System
 from .tickets import Tickets, follow
 from .transport import Transport
-from .waiting import pause
+from .waiting import Backoff, pause
 
 FIRST_PROCESS = 128  # of clients
+RETRIES_A_SECOND = 10.0  # at one task, beside a tenth of all calls
 Made = TypeVar("Made")
 logger = logging.getLogger("hourstable.client")
 
@@ -40,10 +47,11 @@ class NoOwner(Exception):
 class Router:
     """Knows the newest assignment of a job that it was given, and picks an owner of a key.
 
-    With `by_load` it picks, of several owners, the one to which the fewest attempts are underway,
-    and else one at random. With `logs` it writes a log of its clerk, which is number `clerk` of
-    the job, 1 to 128. `transport` brings its requests to planes in place of HTTP, `local_clock` is
-    the clock by which answers are timed, and `system` has its other clocks, chance and files.
+    It goes on whatever planes answer; `metrics` has what it counts. With `by_load` it picks, of several
+    owners, the one to which the fewest attempts are underway, and else one at random. With `logs` it
+    writes a log of its clerk, which is number `clerk` of the job, 1 to 128. `transport` brings its
+    requests to planes in place of HTTP, `local_clock` is the clock by which answers are timed, and
+    `system` has its other clocks, chance and files.
     """
 
     def __init__(
@@ -63,20 +71,26 @@ class Router:
         system: System = SYSTEM,
     ) -> None:
         self.job, self.clerk, self.by_load = job, clerk, by_load
+        self.metrics = RouterMetrics(job, clerk)
         self._logs, self._system = logs, system
+        self._random = system.random()
         self._tickets = self._tickets_of(process)
+        name = f"clerk {clerk}"
         self._control = Control(
             control, job, self._tickets, local_clock or local_clock_of(system=system),
-            secret=secret, tls=tls, timeout=timeout, transport=transport,
+            secret=secret, tls=tls, timeout=timeout, transport=transport, system=system,
+            troubles=Troubles(name, logger, self.metrics.wrong_answer, system.monotonic),
         )
+        self._supervisor = Supervisor(name, logger, self.metrics.internal_error, self._random.random)
+        self._budget = RetryBudget(a_second=RETRIES_A_SECOND, now=system.monotonic)
         self._clerk = Clerk(job)
-        self._log: Log | None = None
-        self._random = system.random()
+        self._log: KeptLog | None = None
+        self._known = b""  # the newest assignment
+        self._why = "no control plane has told an assignment yet"
         self._generation = 0
         self._heard: float | None = None  # when a control plane last answered
         self._underway: Counts[int] = Counts()
         self._changed = asyncio.Event()
-        self._running: asyncio.Task[None] | None = None
 
     def _tickets_of(self, process: int | None) -> Tickets:
         number = FIRST_PROCESS + self.clerk - 1 if process is None else process
@@ -89,14 +103,11 @@ class Router:
 
     async def start(self) -> None:
         """Begins to follow the assignments of the job."""
-        self._running = asyncio.create_task(self._follow())
+        self._supervisor.watch("assignments", self._follow)
 
     async def stop(self) -> None:
         """Ends, and closes all connections."""
-        running, self._running = self._running, None
-        if running is not None:
-            running.cancel()
-            await asyncio.gather(running, return_exceptions=True)
+        await self._supervisor.close()
         await self._control.close()
         self._clerk.close()
         if self._log is not None:
@@ -129,7 +140,7 @@ class Router:
             found = self._clerk.look_at(slice_key_)
         except Refused as refused:
             self._tell("look", refused, slice_key=slice_key_)
-            raise NoOwner(key) from refused
+            raise NoOwner(f"{key}: {self._why}") from refused
         self._tell("look", slice_key=slice_key_, owners=owners_of(found))
         return found
 
@@ -148,20 +159,29 @@ class Router:
 
         `attempt(task)` raises Again if it was denied or its task did not answer. It is then made
         again, at an owner as known then, for up to `patience` seconds and at most as often as
-        waits that grow allow. Raises the last Again, or NoOwner; Rejected if control planes reject
-        the client.
+        waits that grow allow. Of the attempts that are made again at one task those that raise Again
+        are at most a tenth of all calls, and ten more a second. Raises the last Again, or NoOwner.
         """
         backoff = Backoff(self._random.random, least=0.01, most=0.5)
         end = self._system.monotonic() + patience
+        tried: set[tuple[int, int]] = set()  # generations, and their owners
+        failed: Exception = NoOwner(key)
+        self._budget.add()
         while True:
-            if self._running is not None and self._running.done():
-                self._running.result()
             try:
-                return await self._attempt(self.pick(key), attempt)
-            except (Again, NoOwner):
-                left = end - self._system.monotonic()
-                if left <= 0:
-                    raise
+                place = self._generation, self.pick(key)
+                is_again = place in tried
+                if not is_again or self._budget.take():
+                    tried.add(place)
+                    made = await self._attempt(place[1], attempt)
+                    if is_again:
+                        self._budget.give_back()
+                    return made
+            except (Again, NoOwner) as why:
+                failed = why
+            left = end - self._system.monotonic()
+            if left <= 0:
+                raise failed
             await self._pause(min(backoff.seconds(), left))
 
     async def _attempt(self, task: int, attempt: Callable[[int], Awaitable[Made]]) -> Made:
@@ -187,31 +207,44 @@ class Router:
                 await self._learn()
                 backoff.reset()
             except Unreachable as why:
+                self._why = str(why)
+                self.metrics.unreachable.inc()
                 logger.info("clerk %d: %s", self.clerk, why)
-                await asyncio.sleep(backoff.seconds(why.again))
+                least = why.least * (1 + 0.1 * self._random.random())
+                await asyncio.sleep(max(backoff.seconds(why.again), least))
 
     async def _open_log(self, logs: str | os.PathLike[str]) -> None:
-        policy = (await self._control.call("GET")).value()["policy"]
+        policy = await self._control.read(partial(replies.policy_in, self.job), "GET")
         folder, name = folder_of(logs, self.job), f"clerk-{self.clerk}"
-        self._log = Log(folder, name, job_line(policy), system=self._system)
+        opens = partial(Log, folder, name, job_line(policy), system=self._system)
+        try:
+            self._log = KeptLog(
+                opens, f"clerk {self.clerk}", logger, self.metrics.log_missing.inc, self._system.monotonic
+            )
+        except ValueError as why:
+            logger.error("clerk %d: nothing is logged: %s", self.clerk, why)
+            self._logs = None
         self._tell("forget")  # what an earlier process of this clerk had learnt
 
     async def _learn(self) -> None:
         """Learns the next assignment, as soon as there is one."""
         path = f"/assignment?after={self._generation}"
-        answer = await self._control.call("GET", path, timeout=WAIT + self._control.timeout)
+        reads = partial(replies.generation_in, self.job)
+        generation, message = await self._control.read(
+            reads, "GET", path, timeout=WAIT + self._control.timeout
+        )
         self._heard = self._system.monotonic()
-        if answer.status == 204:
+        if not generation:
             return
-        value = answer.value()["value"]
         try:
-            self._clerk.learn(answer.body)
+            self._clerk.learn(message)
         except Refused as refused:
-            self._tell("learn", refused, answer.body)
+            self._tell("learn", refused, message)
             await asyncio.sleep(0.2)  # a plane that stands by is behind
             return
-        self._tell("learn", message=answer.body)
-        self._generation = int(value["generation"])
+        self._known = message
+        self._tell("learn", message=message)
+        self._generation = generation
         self._changed.set()
 
     def _tell(
@@ -223,3 +256,14 @@ class Router:
             call = LoggedCall(self._tickets.draw(), CALLS[do], code, clerk=self.clerk, **members)
             call.told = self._clerk.told
             self._log.append(log_line(self.job, call, message))
+            if self._log.is_stopped and self._log.is_ready():
+                self._begin_anew(self._log)
+
+    def _begin_anew(self, log: KeptLog) -> None:
+        """Goes on with a log that had stopped: the clerk forgets all, and learns it again."""
+        log.go_on()
+        self._clerk.forget()
+        self._tell("forget")
+        if self._known:
+            self._clerk.learn(self._known)
+            self._tell("learn", message=self._known)

@@ -8,8 +8,8 @@ import os
 import re
 from collections.abc import Callable
 
-from hourstable.library import Refused, TableClock, boottime_ticks
-from hourstable.system import SYSTEM, System
+from hourstable.library import Refused, TableClock
+from hourstable.system import SYSTEM, System, steady_ticks
 
 GRAIN = 2  # ticks that rounding down may show, for a drift of at most 1
 VARIABLE = "HOURSTABLE_CLOCK"
@@ -17,14 +17,15 @@ FORM = re.compile(r"epoch=(\d+),ppm=([+-]?\d+)")
 
 
 def local_clock(text: str | None = None, system: System = SYSTEM) -> Callable[[], int]:
-    """Returns the local clock of the process: CLOCK_BOOTTIME of its system in ticks.
+    """Returns the local clock of the process: that of its system, in ticks, which counts suspension and which no
+    time service slews.
 
     For tests, `epoch=N,ppm=P` is a clock that is N ticks ahead of it and P parts in a million
     faster. If `text` is None, that of the variable HOURSTABLE_CLOCK is taken. Raises ValueError if
     it has another form.
     """
     text = os.environ.get(VARIABLE, "") if text is None else text
-    ticks = boottime_ticks if system is SYSTEM else system.ticks  # the same, by one call less
+    ticks = steady_ticks if system is SYSTEM else system.ticks  # the same, by one call less
     if not text:
         return ticks
     found = FORM.fullmatch(text)

@@ -7,23 +7,23 @@ import os
 import resource
 import signal
 import ssl
-import subprocess
 import sys
-import tempfile
 from collections.abc import Sequence
 from pathlib import Path
 
-from hourstable import installed, logs
+from hourstable import context, installed, logs
 from hourstable.assigner import AssignerOfJobs
+from hourstable.auditing import Audit
 from hourstable.clock import local_clock
-from hourstable.control import Limits
 from hourstable.desk import HttpDesk, Unreachable
+from hourstable.limits import Limits
 from hourstable.plans import Hysteresis, slices_in
 from hourstable.service import ControlPlane, Options, process_number
-from hourstable.store import DEADLINE, StoreFailed
-from hourstable.tickets import Tickets
+from hourstable.store import DEADLINE, StoreFailed, password_in
+from hourstable.tickets import NoTickets, Tickets
 
 DEMO_SECONDS = 34
+STORE = "HOURSTABLE_STORE"  # the variable with the URL of the store
 OTHER_FILES = 256  # logs, connections of the store, and so on
 
 
@@ -32,7 +32,7 @@ def main(words: list[str] | None = None) -> int:
     demo found a fault, 2 if the words or the input are refused, 3 if something failed."""
     chosen = parser().parse_args(words)
     level = logging.DEBUG if chosen.verbose else logging.INFO
-    logging.basicConfig(level=level, format="%(asctime)s %(name)s: %(message)s")
+    context.show(level)
     logging.getLogger("psycopg.pool").setLevel(logging.ERROR)  # what fails is told by the plane
     try:
         status: int = chosen.run(chosen)
@@ -52,6 +52,7 @@ def parser() -> argparse.ArgumentParser:
     _control_words(subcommands.add_parser("control", help="run a control plane"))
     _assigner_words(subcommands.add_parser("assigner", help="run an assigner beside the planes"))
     _drain_words(subcommands.add_parser("drain", help="let a task own no more keys"))
+    _doctor_words(subcommands.add_parser("doctor", help="say what ails a control plane, and what to do"))
     _audit_words(subcommands.add_parser("audit", help="audit the logs of a job"))
     _demo_words(subcommands.add_parser("demo", help="run a cache, break it, and audit it"))
     return made
@@ -59,13 +60,21 @@ def parser() -> argparse.ArgumentParser:
 
 def _control_words(words: argparse.ArgumentParser) -> None:
     words.set_defaults(run=_control)
-    words.add_argument("--store", required=True, metavar="URL",
-                       help="sqlite:FILE, postgresql://.., etcd://HOST:PORT,.. or etcds://..")
+    store = words.add_mutually_exclusive_group()
+    store.add_argument("--store", metavar="URL",
+                       help="sqlite:FILE, postgresql://.., etcd://HOST:PORT,.. or etcds://.. without a password")
+    store.add_argument("--store-file", metavar="FILE",
+                       help=f"the first line is the URL; without both words it is that of ${STORE}")
     words.add_argument("--store-deadline", type=float, default=DEADLINE, metavar="SECONDS",
                        help=f"in which a call of the store is answered, or fails ({DEADLINE:g})")
     words.add_argument("--listen", required=True, metavar="HOST:PORT")
     words.add_argument("--logs", required=True, metavar="FOLDER",
-                       help="for the logs of all jobs, and the ticket of this process")
+                       help="for the logs of all jobs")
+    words.add_argument("--keep-logs", metavar="DAYS", type=int,
+                       help="remove its logs after so many days, audited or not (never)")
+    words.add_argument("--state", metavar="FOLDER", type=Path,
+                       help="for the tickets of this process ($STATE_DIRECTORY, or else the one of the logs with"
+                       " .state behind its name)")
     words.add_argument("--process", type=int, default=0, metavar="N",
                        help="its number among all planes and assigners, 0 to 63 (0)")
     shared = words.add_mutually_exclusive_group()
@@ -86,6 +95,8 @@ def _control_words(words: argparse.ArgumentParser) -> None:
     limits = Limits()
     words.add_argument("--most-jobs", type=int, default=limits.jobs, metavar="N")
     words.add_argument("--most-connections", type=int, default=limits.connections, metavar="N")
+    words.add_argument("--most-connections-of-peer", type=int, default=limits.peer, metavar="N",
+                       help="of one address (half of --most-connections)")
     words.add_argument("--grants", type=float, default=limits.grants, metavar="RATE",
                        help="grants a second of a task")
     _rule_words(words)
@@ -106,6 +117,10 @@ def _rules_in(chosen: argparse.Namespace) -> Hysteresis:
 def _caller_words(words: argparse.ArgumentParser) -> None:
     words.add_argument("--control", required=True, action="append", metavar="URL",
                        help="a control plane; again for each other one")
+    _identity_words(words)
+
+
+def _identity_words(words: argparse.ArgumentParser) -> None:
     words.add_argument("--secret-file", metavar="FILE", help="the first line is the secret")
     words.add_argument("--tls-ca", metavar="FILE", help="the authority of the planes")
     words.add_argument("--tls-cert", metavar="FILE", help="the certificate to show")
@@ -132,6 +147,22 @@ def _drain_words(words: argparse.ArgumentParser) -> None:
     words.add_argument("task", type=int)
 
 
+def _doctor_words(words: argparse.ArgumentParser) -> None:
+    words.set_defaults(run=_doctor)
+    words.description = (
+        "Asks a control plane for all that shows whether it does its work, and changes nothing. The status is 1 if"
+        " something is to be mended; what that is stands in lines that begin with MEND."
+    )
+    _identity_words(words)
+    words.add_argument("url", metavar="URL", help="of the plane, as http://10.0.0.1:8070")
+
+
+def _doctor(chosen: argparse.Namespace) -> int:
+    from hourstable import doctor
+
+    return doctor.run(chosen.url, secret_of(chosen), client_tls(chosen))
+
+
 def _audit_words(words: argparse.ArgumentParser) -> None:
     words.set_defaults(run=_audit)
     words.add_argument("folder", type=Path, help="the logs of a job, or of all jobs")
@@ -147,6 +178,9 @@ def _audit_words(words: argparse.ArgumentParser) -> None:
                        help="go on from the state that earlier logs of the job left")
     words.add_argument("--until", type=Path, metavar="STATE",
                        help="save the state that the logs of the job leave, if they are one run")
+    words.add_argument("--keep", type=int, metavar="DAYS",
+                       help="if the logs are one run, keep those of today and so many days before, and the state that"
+                       " older ones leave, from which the next audit goes on; remove the older ones")
 
 
 def _demo_words(words: argparse.ArgumentParser) -> None:
@@ -182,18 +216,36 @@ def options_of(chosen: argparse.Namespace) -> Options:
         raise ValueError(f"{chosen.listen!r} is not HOST:PORT")
     if not chosen.store_deadline > 0:
         raise ValueError("--store-deadline is above 0")
+    if chosen.keep_logs is not None and chosen.keep_logs < 1:
+        raise ValueError("--keep-logs is a number of days, 1 or more")
     limits = Limits(
-        jobs=chosen.most_jobs, connections=chosen.most_connections, grants=chosen.grants,
-        burst=2 * chosen.grants,
+        jobs=chosen.most_jobs, connections=chosen.most_connections, peer=chosen.most_connections_of_peer,
+        grants=chosen.grants, burst=2 * chosen.grants,
     )
     return Options(
-        chosen.store, Path(chosen.logs), host.strip("[]"), int(port),
+        store_in(chosen), Path(chosen.logs), host.strip("[]"), int(port),
         process=process_number(chosen.process), shared=chosen.shared, standby=chosen.standby,
         assigner=chosen.assigner,
         secrets=secrets_in(chosen.secret_file) if chosen.secret_file else [],
         tls=server_tls(chosen), limits=limits, rules=_rules_in(chosen),
-        store_deadline=chosen.store_deadline,
+        store_deadline=chosen.store_deadline, state=chosen.state, keep_logs=chosen.keep_logs,
     )
+
+
+def store_in(chosen: argparse.Namespace) -> str:
+    """Returns the URL of the store. Raises ValueError, also if a password stands where other users read it."""
+    if chosen.store_file:
+        with open(chosen.store_file, encoding="utf-8") as file:
+            return file.readline().strip()
+    if chosen.store and password_in(chosen.store):
+        raise ValueError(
+            "other users of this host can read a password on a command line: put the URL into a file (--store-file)"
+            f" or into ${STORE}"
+        )
+    url: str = chosen.store or os.environ.get(STORE, "")
+    if not url:
+        raise ValueError(f"say where jobs are stored: --store, --store-file or ${STORE}")
+    return url
 
 
 async def _run_control(chosen: argparse.Namespace) -> int:
@@ -268,8 +320,11 @@ def client_tls(chosen: argparse.Namespace) -> ssl.SSLContext | None:
 
 
 def desk_of(chosen: argparse.Namespace, tickets: Tickets) -> HttpDesk:
-    secret = secrets_in(chosen.secret_file)[0] if chosen.secret_file else None
-    return HttpDesk(chosen.control, tickets, secret, client_tls(chosen))
+    return HttpDesk(chosen.control, tickets, secret_of(chosen), client_tls(chosen))
+
+
+def secret_of(chosen: argparse.Namespace) -> str | None:
+    return secrets_in(chosen.secret_file)[0] if chosen.secret_file else None
 
 
 def _assigner(chosen: argparse.Namespace) -> int:
@@ -280,12 +335,17 @@ async def _run_assigner(chosen: argparse.Namespace) -> int:
     ended, tickets = signalled(), Tickets(process_number(chosen.process), chosen.ticket)
     desk = desk_of(chosen, tickets)
     jobs = AssignerOfJobs(chosen.assigner, desk, local_clock(), _rules_in(chosen))
-    running = asyncio.create_task(jobs.run())
-    await ended.wait()
-    running.cancel()
-    await asyncio.gather(running, return_exceptions=True)
-    await desk.close()
-    tickets.close()
+    running, told = asyncio.create_task(jobs.run()), asyncio.create_task(ended.wait())
+    try:
+        await asyncio.wait({running, told}, return_when=asyncio.FIRST_COMPLETED)
+        if running.done():
+            running.result()
+    finally:
+        for one in (running, told):
+            one.cancel()
+        await asyncio.gather(running, told, return_exceptions=True)
+        await desk.close()
+        tickets.close()
     return 0
 
 
@@ -297,7 +357,7 @@ def _drain(chosen: argparse.Namespace) -> int:
 
 async def _run_drain(chosen: argparse.Namespace) -> int:
     """Drains a task, and waits until it owns no key, if that is asked for."""
-    desk = desk_of(chosen, Tickets(255, None))
+    desk = desk_of(chosen, NoTickets())
     loop = asyncio.get_running_loop()
     end = loop.time() + chosen.wait
     try:
@@ -330,8 +390,10 @@ def _audit(chosen: argparse.Namespace) -> int:
         raise ValueError(f"{chosen.folder} has no logs")
     if len(folders) > 1 and (chosen.begins or chosen.until):
         raise ValueError("a state is one of a job: name the folder of its logs")
+    if chosen.keep is not None and (chosen.begins or chosen.until or chosen.keep < 0):
+        raise ValueError("--keep takes a number of days, and finds and saves states by itself")
     options = _audit_options(chosen)
-    return max(audit(folder, program, options, len(folders) > 1) for folder in folders)
+    return max(audit(folder, program, options, len(folders) > 1, chosen.keep) for folder in folders)
 
 
 def _audit_options(chosen: argparse.Namespace) -> list[str]:
@@ -344,14 +406,13 @@ def _audit_options(chosen: argparse.Namespace) -> list[str]:
     return options
 
 
-def audit(folder: Path, program: str, options: Sequence[str], tell: bool) -> int:
-    """Hands the logs of a job to the program, with its options, and returns its status."""
-    with tempfile.TemporaryDirectory(prefix="hourstable-audit.") as laid:
-        paths = logs.lay_out(folder, laid)
-        if tell:
-            print(f"{folder.name}:", flush=True)
-        names = [path.name for path in paths]
-        return subprocess.run([os.path.abspath(program), "audit", *options, *names], cwd=laid).returncode
+def audit(
+    folder: Path, program: str, options: Sequence[str], tell: bool, keep: int | None = None
+) -> int:
+    """Hands the logs of a job to the program, with its options, and returns its status; 1 if the logs lack calls."""
+    if tell:
+        print(f"{folder.name}:", flush=True)
+    return Audit(folder, program, options).run(keep)
 
 
 if __name__ == "__main__":

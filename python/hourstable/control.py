@@ -8,7 +8,6 @@ import asyncio
 import hmac
 import json
 import logging
-import math
 import ssl
 from collections.abc import Awaitable, Callable
 from dataclasses import dataclass, field
@@ -17,74 +16,50 @@ from typing import Any, TypeVar
 
 from aiohttp import web
 
-from hourstable import logs, page
+from hourstable import page
 from hourstable import tickets as ticketing
-from hourstable.jobs import (
-    Call, Commit, Free, Grant, Job, Made, Malformed, Propose, Renew, Replaced, Settings, Take,
-    is_number, policy_of, term_of,
+from hourstable.answers import (
+    TASKS, answer_of, asker_in, failure, job_in, json_of, member, message_of, name_in, number_in, refused, told,
 )
+from hourstable.connections import BACKLOG, Connections
+from hourstable.context import note
+from hourstable.failures import Failures
+from hourstable.jobs import Job, Made, Replaced, Settings, policy_of
 from hourstable.keys import KeyTold
 from hourstable.lanes import Lanes
 from hourstable.library import Refused, Table
+from hourstable.limits import Bucket, Limited
+from hourstable.limits import Limits as Limits
 from hourstable.loads import Denials, Loads
-from hourstable.metrics import CONTENT_TYPE, Metrics, Shown, word_of
-from hourstable.store import Conflict, LivesSpent, NoSuchJob, Store, StoreFailed
+from hourstable.metrics import CONTENT_TYPE, Metrics, Shown
+from hourstable.overload import Overload
+from hourstable.readiness import Readiness
+from hourstable.record import Record
+from hourstable.request_ids import name_answer, traced
+from hourstable.store import Conflict, Damaged, LivesSpent, NoSuchJob, Store, StoreFailed
+from hourstable.supervisor import Supervisor
+from hourstable.table_calls import Call, Commit, Free, Grant, Malformed, Propose, Renew, Take, term_of
 from hourstable.tickets import Tickets
+from hourstable.waiting import within
+from hourstable.waits import Waits
 
 T = TypeVar("T")
 Handler = Callable[[web.Request], Awaitable[web.StreamResponse]]
-READING = "Hourstable-Reading"
-TASKS, LIVES = range(1, 65), range(1, 1 << 32)
-JSON = {"Content-Type": "application/json"}
-LONGEST_WAIT = 30.0  # seconds of a waiting GET
 MOST_KEY = 4096  # characters of a key that is asked about
-MIB = 1 << 20
 MOST_GRANTS = 1024  # of one request
-PUBLIC = {"/healthz", *page.FILES}  # what is answered without a secret
+LEAST_GUARD = 100  # milliseconds of a new job: who takes them for seconds is told
+LINGERING = 1.0  # seconds for which what is left of a body is read after the answer
+PUBLIC = {"/healthz", "/readyz", *page.FILES}  # what is answered without a secret
+PAGES = {  # what people look at
+    *page.FILES, "/overview", "/jobs/{job}/leases", "/jobs/{job}/slices", "/jobs/{job}/key",
+}
 
 log = logging.getLogger("hourstable.control")
 
 
-@dataclass
-class Limits:
-    """What a control plane takes. Beyond a limit it answers 413 or 429 and says which."""
-
-    body: int = MIB
-    jobs: int = 64
-    connections: int = 1024
-    grants: float = 20.0  # a second, of each task of each job
-    burst: float = 40.0  # grants of a task that may come at once
-    patience: float = 10.0  # seconds in which a call is answered
-
-
-class Limited(Exception):
-    """A request is beyond a limit; it may be made again after some seconds."""
-
-    def __init__(self, limit: str, after: float) -> None:
-        super().__init__(f"limit of {limit}")
-        self.limit, self.after = limit, after
-
-
-ANSWERED = (
-    Malformed, NoSuchJob, Conflict, LivesSpent, Limited, Replaced, StoreFailed, MemoryError,
-    web.HTTPException,
-)
-
-
-class Bucket:
-    """A rate: `burst` at once, and then `rate` a second."""
-
-    def __init__(self, rate: float, burst: float, now: float) -> None:
-        self._rate, self._burst, self._left, self._at = rate, burst, burst, now
-
-    def take(self, now: float) -> float:
-        """Takes one, and returns 0; or the seconds until there is one again."""
-        self._left = min(self._burst, self._left + (now - self._at) * self._rate)
-        self._at = now
-        if self._left >= 1:
-            self._left -= 1
-            return 0.0
-        return (1 - self._left) / self._rate
+REFUSED = Malformed, NoSuchJob, Conflict, LivesSpent, Limited, Replaced  # which say nothing against a job
+EXPECTED = StoreFailed, OSError, MemoryError, Malformed, ValueError  # of a job that fails, or of its store
+ANSWERED = (*REFUSED, StoreFailed, OSError, MemoryError, web.HTTPException)
 
 
 @dataclass
@@ -127,12 +102,19 @@ class Plane:
         self.metrics = Metrics()
         self._now = settings.system.monotonic
         self.jobs: dict[str, Followed] = {}
-        self.is_closing = False
+        self.failures = Failures()
+        self.readiness = Readiness(store, settings.system)
+        self.record = Record(None, settings.system)
+        self.waits = Waits(tickets, self._now)
         self._secrets = [secret.encode() for secret in secrets or []]
         self._runner: web.AppRunner | None = None
         self._server: asyncio.Server | None = None
-        self._poller: asyncio.Task[None] | None = None
-        self._looking: dict[str, asyncio.Task[None]] = {}  # jobs at which it looks now
+        self.connections: Connections | None = None
+        self.overload = Overload(self._now)
+        self.supervisor = Supervisor(
+            f"plane {settings.process}", log, self.metrics.internal_error, settings.system.random().random
+        )
+        self._looking: set[str] = set()  # jobs at which it looks now
 
     # Starting and ending ---------------------------------------------------------------------
 
@@ -140,26 +122,28 @@ class Plane:
         self, host: str, port: int, tls: ssl.SSLContext | None = None, poll: float = 1.0
     ) -> int:
         """Listens, and returns the port."""
-        for name in await self.store.jobs():
-            await self._look_at(name)
-        self._runner = web.AppRunner(self.application(), access_log=None)
+        await asyncio.gather(*map(self._look_at, await self.store.jobs()))
+        self._runner = web.AppRunner(self.application(), access_log=None, lingering_time=LINGERING)
         await self._runner.setup()
+        server, turned = self._runner.server, self.metrics.turned
+        assert server is not None
+        self.connections = Connections(self.limits, server, self._now, turned, tls)
         self._server = await asyncio.get_running_loop().create_server(
-            self._connected, host, port, ssl=tls, backlog=128, reuse_address=True
+            self.connections.door, host, port, backlog=BACKLOG, reuse_address=True
         )
-        self._poller = asyncio.create_task(self._poll(poll))
+        self.supervisor.watch("overload", self.overload.watch)
+        self.supervisor.watch("poller", partial(self._poll, poll))
         made: int = self._server.sockets[0].getsockname()[1]
         return made
 
     async def stop(self) -> None:
         """Answers what was asked, and closes all but the store."""
-        self.is_closing = True
+        self.waits.is_closing = True
         if self._server is not None:
             self._server.close()
-        if self._poller is not None:
-            self._poller.cancel()
-            for looking in self._looking.values():
-                looking.cancel()
+        if self.connections is not None:
+            self.connections.close()
+        await self.supervisor.close()
         for followed in self.jobs.values():
             followed.job.wake()
         if self._runner is not None and self._runner.server is not None:
@@ -183,50 +167,69 @@ class Plane:
         try:
             await job.finish()
             await job.settle()
-        except (StoreFailed, Conflict) as error:
-            log.warning("%s was not settled: %s", job.name, error)
-
-    def _connected(self) -> asyncio.Protocol:
-        """Returns the protocol of a new connection; beyond the limit one that only says so."""
-        assert self._runner is not None and self._runner.server is not None
-        server = self._runner.server
-        if len(server.connections) >= self.limits.connections:
-            self.metrics.limited.labels("connections").inc()
-            return Turned()
-        protocol: asyncio.Protocol = server()
-        return protocol
+        except Exception as error:
+            log.warning("%s was not settled: %r", job.name, error)
 
     async def _poll(self, every: float) -> None:
-        """Looks what other planes wrote, where several share the store."""
+        """Looks what other planes wrote, where several share the store, and again at jobs that failed."""
         while True:
+            self.readiness.beat()
             await asyncio.sleep(every)
-            try:
-                names = await self.store.jobs() if self.settings.shared else []
-            except StoreFailed as error:
-                log.warning("the store was not read: %s", error)
-                continue
-            for name in names:  # a job whose row is locked keeps up no other
-                if name not in self._looking:
-                    self._looking[name] = asyncio.create_task(self._look_at(name))
-                    self._looking[name].add_done_callback(partial(self._looked, name))
+            names = set(self.failures)
+            if self.settings.shared:
+                try:
+                    names.update(await self.store.jobs())
+                except StoreFailed as error:
+                    log.warning("the store was not read: %s", error)
+                    for followed in self.jobs.values():
+                        followed.job.unsee()
+                    continue
+            for name in sorted(names - self._looking):  # a job whose row is locked keeps up no other
+                self._looking.add(name)
+                looking = self.supervisor.spawn("look_at", self._look_at(name))
+                looking.add_done_callback(partial(self._looked, name))
 
     def _looked(self, name: str, _: "asyncio.Task[None]") -> None:
-        del self._looking[name]
+        self._looking.discard(name)
 
     async def _look_at(self, name: str) -> None:
-        """Reads what is stored of a job. One that is damaged keeps no other from being served."""
+        """Reads what is stored of a job. One that fails keeps no other from being served."""
         try:
-            await (await self.followed(name)).job.refresh()
-        except (StoreFailed, NoSuchJob, Malformed, ValueError, OSError) as error:
-            log.warning("%s was not read: %s", name, error)
+            job = (await self.followed(name)).job
+            await job.refresh()
+        except NoSuchJob:
+            self.failures.forget(name)
+        except Exception as error:
+            self._fail(name, "read", error)
+        else:
+            self.failures.well(name, "read")
+            if not job.is_held:  # its callers may have gone to another plane
+                self.failures.lapse(name, "call", self._now() - self.limits.patience)
+
+    def _fail(self, name: str, what: str, error: Exception) -> None:
+        """Notes that a job failed: it is shown with why, and tried again."""
+        failure = self.failures.failed(name, what, error, self._now())
+        self.metrics.job_failed(name)
+        if failure.tries > 1:
+            return
+        log.warning("%s failed: %s", name, failure.why)
+        if not isinstance(error, EXPECTED):
+            self.supervisor.caught(f"job {what}", error)
+
+    def _job(self, name: str) -> Job:
+        return Job(name, self.store, self.settings, self.tickets, self.metrics)
 
     async def followed(self, name: str) -> Followed:
-        """Returns a job. Raises NoSuchJob."""
+        """Returns a job. Raises NoSuchJob, and what loading it raises."""
         found = self.jobs.get(name)
         if found is None:
-            job = Job(name, self.store, self.settings, self.tickets, self.metrics)
-            await job.load()
-            job.lives = await self.store.lives(name)
+            job = self._job(name)
+            try:
+                await job.load()
+                job.lives = await self.store.lives(name)
+            except BaseException:
+                job.close()
+                raise
             found = self.jobs.setdefault(name, Followed(job, Loads(), {}, {}))
             if found.job is not job:
                 job.close()
@@ -246,8 +249,17 @@ class Plane:
 
     def _saw(self, job: Job, call: Call[T], done: "asyncio.Future[Made[T]]") -> None:
         followed = self.jobs.get(job.name)
-        if followed is not None and not done.cancelled() and done.exception() is None:
-            followed.lanes.saw(job, call, done.result())
+        if done.cancelled():
+            return
+        error = done.exception()
+        if error is None:
+            self.failures.well(job.name, "call")
+            if followed is not None:
+                followed.lanes.saw(job, call, done.result())
+                if isinstance(call, Propose) and done.result().at is not None:
+                    self.record.evicted(job, call, followed.alive(self._now()), followed.draining())
+        elif isinstance(error, Exception) and not isinstance(error, REFUSED):
+            self._fail(job.name, "call", error)
 
     async def _in_time(self, answer: "asyncio.Future[Made[T]]") -> Made[T]:
         loop = asyncio.get_running_loop()
@@ -285,8 +297,13 @@ class Plane:
         if name not in names:
             if len(names) >= self.limits.jobs:
                 raise Limited("jobs", 60)
+            if policy.guard < LEAST_GUARD:
+                raise Malformed(f"guard is {policy.guard}: terms are in milliseconds, and a guard term is at least"
+                                f" {LEAST_GUARD} and usually 10000")
+            self._job(name).try_log()  # a job whose log cannot be opened is not stored
             try:
                 await self.store.create(name, text, kept)
+                self.record.add("create", name, policy=members)
                 await self.followed(name)
                 return True
             except Conflict:
@@ -314,14 +331,19 @@ class Plane:
     def shown(self) -> list[Shown]:
         """Returns what the gauges show."""
         now = self._now()
-        return [Shown(name, _numbers_of(one, now)) for name, one in self.jobs.items()]
+        made = [Shown(name, _numbers_of(one, now)) for name, one in self.jobs.items()]
+        made += [Shown(name, {}) for name in self.failures if name not in self.jobs]
+        for one in made:
+            one.numbers["job_failed"] = 1 if one.job in self.failures else 0
+        return made
 
     # HTTP ------------------------------------------------------------------------------------
 
     def application(self) -> web.Application:
         made = web.Application(
-            client_max_size=self.limits.body + 1, middlewares=[self._around]
+            client_max_size=self.limits.body + 1, middlewares=[traced, self._around]
         )
+        made.on_response_prepare.append(name_answer)
         made.add_routes([  # they are looked at in this order: the calls of tasks come first
             web.post("/jobs/{job}/grant", self._post_grant),
             web.get("/jobs/{job}/phase", self._get_phase),
@@ -340,6 +362,8 @@ class Plane:
             web.put("/jobs/{job}", self._put_job),
             web.get("/jobs", self._get_jobs),
             web.get("/healthz", self._healthz),
+            web.get("/readyz", self._readyz),
+            web.get("/record", self._get_record),
             web.get("/metrics", self._metrics),
             web.get("/overview", self._get_overview),
             web.get("/jobs/{job}/leases", self._get_leases),
@@ -358,14 +382,14 @@ class Plane:
             self.metrics.unauthorized.inc()
             answer = failure(401, "the secret is missing or wrong")
             answer.headers["WWW-Authenticate"] = "Bearer"
+            answer.force_close()
             return answer
         try:
             if not is_public:
                 self.tickets.observe_text(request.headers.get(ticketing.HEADER))
         except ValueError as error:
             return failure(400, str(error))
-        made = await self._answered(request, handler)
-        made.headers[ticketing.HEADER] = str(self.tickets.draw())
+        made = self._with_ticket(await self._answered(request, handler), is_public)
         if request.method != "GET":
             route = request.match_info.route.resource
             call = route.canonical.rpartition("/")[2] if route else "none"
@@ -380,11 +404,52 @@ class Plane:
         return any(equal)
 
     async def _answered(self, request: web.Request, handler: Handler) -> web.StreamResponse:
-        """Answers what a handler raises."""
+        """Answers what a handler raises. What nobody expected is counted, and aiohttp answers 500."""
         try:
+            await self._take_whole(request)
+            self._leave_out(request)
             return await handler(request)
         except ANSWERED as error:
             return self._failure_of(request, error)
+        except Exception as error:
+            self.supervisor.caught("request", error)
+            raise
+
+    async def _take_whole(self, request: web.Request) -> None:
+        """Waits for the body, but not for long. Raises HTTPException."""
+        if not request.content.is_eof():
+            try:
+                await within(self.limits.first, request.read())
+            except TimeoutError:
+                raise web.HTTPRequestTimeout from None
+            except (web.RequestPayloadError, ConnectionError):
+                raise web.HTTPBadRequest from None
+        if self.connections is not None:
+            self.connections.heard(request.protocol, request.path not in PUBLIC)
+
+    def _leave_out(self, request: web.Request) -> None:
+        """Raises Limited for a request that is left out under overload: pages first, then calls that wait."""
+        level = self.overload.level()
+        if self.connections is not None:
+            level = max(level, self.connections.crowding())
+        if level and request.method == "GET":
+            route = request.match_info.route.resource
+            name = route.canonical if route is not None else ""
+            if name in PAGES or (level > 1 and may_wait(request, name)):
+                raise Limited("load", 1)
+
+    def _with_ticket(self, answer: web.StreamResponse, is_public: bool) -> web.StreamResponse:
+        """Returns an answer with its ticket. If none can be drawn, nothing is known of the call."""
+        if answer.prepared:
+            return answer  # it had a ticket of its own
+        try:
+            answer.headers[ticketing.HEADER] = str(self.tickets.draw())
+        except (OSError, OverflowError) as error:
+            if is_public:
+                return answer
+            log.warning("no ticket can be drawn: %s", error)
+            return failure(503, f"no ticket can be drawn: {error}", 1, refused="disk")
+        return answer
 
     def _failure_of(self, request: web.Request, error: Exception) -> web.Response:
         """Returns the answer to a request that raised one of ANSWERED."""
@@ -392,29 +457,49 @@ class Plane:
             case Malformed():
                 return failure(400, str(error))
             case NoSuchJob():
-                return failure(404, f"there is no job {error}")
+                return failure(404, f"there is no job {error}: PUT /jobs/{error} with its policy creates it")
             case Conflict() | LivesSpent():
                 return failure(409, str(error))
             case Limited():
                 self.metrics.limited.labels(error.limit).inc()
-                return failure(429, str(error), error.after, limit=error.limit)
+                made = failure(429, str(error), error.after, limit=error.limit)
+                if error.limit == "load":
+                    made.force_close()  # for those that are not left out
+                return made
             case web.HTTPRequestEntityTooLarge():
                 self.metrics.limited.labels("body").inc()
                 return failure(413, f"a body has at most {self.limits.body} bytes", limit="body")
+            case web.HTTPRequestTimeout() | web.HTTPBadRequest():
+                made = failure(error.status, "the body did not come, or not as it was announced")
+                made.force_close()
+                return made
             case web.HTTPException():
                 return failure(error.status, error.reason)
             case Replaced():
                 return failure(503, str(error), error.after, refused="replaced")
         log.warning("%s %s: %s", request.method, request.path, error)
+        match error:
+            case Damaged():
+                return failure(503, str(error), 5, refused="damaged")
+            case OSError():
+                return failure(503, f"the plane cannot write: {error.strerror}", 1, refused="disk")
         return failure(503, "the store failed", 1, refused="store")
 
     async def _healthz(self, _: web.Request) -> web.Response:
         return web.Response(text="ok\n")
 
+    async def _readyz(self, request: web.Request) -> web.Response:
+        is_ready, shown = await self.readiness.shown(self._knows(request))
+        is_ready = shown["ready"] = is_ready and not self.waits.is_closing
+        return answer_of(shown, 200 if is_ready else 503)
+
+    async def _get_record(self, request: web.Request) -> web.Response:
+        return answer_of({"record": self.record.newest(request.query.get("job"))})
+
     async def _metrics(self, _: web.Request) -> web.Response:
-        if self._runner is not None and self._runner.server is not None:
-            self.metrics.connections.set(len(self._runner.server.connections))
-        text = self.metrics.text(self.shown())
+        if self.connections is not None:
+            self.metrics.connections.set(len(self.connections))
+        text = self.metrics.text(self.shown(), self.tickets.left_out)
         return web.Response(body=text, headers={"Content-Type": CONTENT_TYPE})
 
     async def _get_jobs(self, _: web.Request) -> web.Response:
@@ -428,8 +513,10 @@ class Plane:
         return answer_of(await self.status(job_in(request)))
 
     async def _get_overview(self, _: web.Request) -> web.Response:
-        now = self._now()
-        return answer_of({"jobs": [page.overview_of(it, now) for it in self.jobs.values()]})
+        now, failures = self._now(), self.failures
+        made = [page.overview_of(it, now, failures.of(it.job.name)) for it in self.jobs.values()]
+        made += [page.overview_of_failed(it, now, failures.of(it)) for it in failures if it not in self.jobs]
+        return answer_of({"jobs": sorted(made, key=lambda it: str(it["job"]))})
 
     async def _get_leases(self, request: web.Request) -> web.Response:
         followed = await self.followed(job_in(request))
@@ -447,29 +534,26 @@ class Plane:
         told = KeyTold(followed.job, followed.lanes, alive, followed.draining(), key)
         return answer_of(told.value())
 
-    async def _get_assignment(self, request: web.Request) -> web.Response:
-        job = (await self.followed(job_in(request))).job
-        after, until = number_in(request, "after", 0), self._now() + LONGEST_WAIT
-        while job.view.committed <= after:
-            left = until - self._now()
-            if left <= 0 or self.is_closing:
-                return web.Response(status=204)
-            await job.changed(left)
-        assert job.view.assignment is not None
-        return message_of(job.view.assignment)
+    async def _get_assignment(self, request: web.Request) -> web.StreamResponse:
+        job, after = (await self.followed(job_in(request))).job, number_in(request, "after", 0)
 
-    async def _get_phase(self, request: web.Request) -> web.Response:
-        job, until = (await self.followed(job_in(request))).job, self._now() + LONGEST_WAIT
-        waits = {"committed", "pending"} <= set(request.query)
+        def answer() -> web.Response:
+            assignment = job.view.assignment if job.view.committed > after else None
+            return web.Response(status=204) if assignment is None else message_of(assignment)
+
+        return await self.waits.get(request, job, lambda: job.view.committed > after, answer)
+
+    async def _get_phase(self, request: web.Request) -> web.StreamResponse:
+        job = (await self.followed(job_in(request))).job
+        is_waiting = may_wait(request, "/jobs/{job}/phase")
         known = number_in(request, "committed", 0), number_in(request, "pending", 0)
-        while waits and job.view[:2] == known and not self.is_closing:
-            left = until - self._now()
-            if left <= 0:
-                break
-            await job.changed(left)
-        committed, proposed, _ = job.view
-        phase = "proposed" if proposed else "idle"
-        return answer_of({"phase": phase, "committed": committed, "pending": proposed or None})
+
+        def answer() -> web.Response:
+            committed, proposed, _ = job.view
+            phase = "proposed" if proposed else "idle"
+            return answer_of({"phase": phase, "committed": committed, "pending": proposed or None})
+
+        return await self.waits.get(request, job, lambda: not is_waiting or job.view[:2] != known, answer)
 
     async def _get_loads(self, request: web.Request) -> web.Response:
         followed = await self.followed(job_in(request))
@@ -478,6 +562,7 @@ class Plane:
     async def _post_loads(self, request: web.Request) -> web.Response:
         followed, given = await self.followed(job_in(request)), await json_of(request)
         task = member(given, "task", TASKS)
+        note(task=task)
         try:
             denials = Denials.read(given)
             followed.loads.report(task, given.get("loads"), self._now())
@@ -488,7 +573,10 @@ class Plane:
 
     async def _post_drain(self, request: web.Request) -> web.Response:
         followed, given = await self.followed(job_in(request)), await json_of(request)
-        await followed.job.drain(member(given, "task", TASKS))
+        task = member(given, "task", TASKS)
+        note(task=task)
+        await followed.job.drain(task)
+        self.record.add("drain", followed.job.name, task=task, life=followed.job.lives[task].life)
         return web.Response(status=204)
 
     async def _post_life(self, request: web.Request) -> web.Response:
@@ -497,10 +585,12 @@ class Plane:
         if not (text.isascii() and text.isdigit() and len(text) <= 2 and int(text) in TASKS):
             raise Malformed("a task is 1 to 64")
         life = await followed.job.raise_life(int(text))
+        self.record.add("begin", followed.job.name, task=int(text), life=life)
         return answer_of({"life": life, "last": life - 1})
 
     async def _post_grant(self, request: web.Request) -> web.Response:
         name, (task, life) = job_in(request), asker_in(await json_of(request))
+        note(task=task)
         made = await self._in_time(await self.begin_grant(name, task, life))
         return told(made, message_of)
 
@@ -573,24 +663,10 @@ class Plane:
         return told(made, lambda committed: answer_of({"generation": committed}))
 
 
-class Turned(asyncio.Protocol):
-    """A connection beyond the limit: its request is answered 429, and it is closed."""
-
-    BODY = b'{"error":"limit of connections","limit":"connections"}'
-
-    def connection_made(self, transport: asyncio.BaseTransport) -> None:
-        assert isinstance(transport, asyncio.Transport)
-        self._transport = transport
-        asyncio.get_running_loop().call_later(5, transport.close)
-
-    def data_received(self, data: bytes) -> None:
-        if not self._transport.is_closing():
-            self._transport.write(
-                b"HTTP/1.1 429 Too Many Requests\r\nContent-Type: application/json\r\n"
-                b"Retry-After: 1\r\nConnection: close\r\nContent-Length: %d\r\n\r\n%s"
-                % (len(self.BODY), self.BODY)
-            )
-            self._transport.close()
+def may_wait(request: web.Request, route: str) -> bool:
+    """Returns whether a GET may wait."""
+    asks_phase = route == "/jobs/{job}/phase" and {"committed", "pending"} <= set(request.query)
+    return asks_phase or route == "/jobs/{job}/assignment"
 
 
 def _give_up(answer: "asyncio.Future[Any]") -> None:
@@ -616,79 +692,3 @@ def _numbers_of(followed: Followed, now: float) -> dict[str, float]:
         numbers["grants_made"] = granted
         numbers["numbers_left_ratio"] = 1 - granted / job.policy.numbers
     return numbers
-
-
-def job_in(request: web.Request) -> str:
-    return name_in(request.match_info["job"])
-
-
-def name_in(given: object) -> str:
-    """Returns the name of a job. Raises Malformed."""
-    if not isinstance(given, str) or not logs.NAME.fullmatch(given):
-        raise Malformed("the name of a job is that of a folder: 1 to 64 letters, digits, . _ and -")
-    return given
-
-
-def number_in(request: web.Request, name: str, default: int) -> int:
-    text = request.query.get(name, str(default))
-    if not (text.isascii() and text.isdigit() and len(text) <= 20 and int(text) < 1 << 64):
-        raise Malformed(f"{name} is no number of 64 bits")
-    return int(text)
-
-
-async def json_of(request: web.Request) -> dict[str, Any]:
-    try:
-        given = json.loads(await request.read())
-    except (ValueError, RecursionError) as error:
-        raise Malformed("the body is not a JSON text") from error
-    if not isinstance(given, dict):
-        raise Malformed("the body is not an object")
-    return given
-
-
-def member(given: dict[str, Any], name: str, limits: range) -> int:
-    value = given.get(name)
-    if not is_number(value) or value not in limits:
-        raise Malformed(f"{name} is no number from {limits.start} to {limits.stop - 1}")
-    assert isinstance(value, int)
-    return value
-
-
-def asker_in(given: dict[str, Any]) -> tuple[int, int]:
-    """Returns the task and the life that ask for a grant."""
-    return member(given, "task", TASKS), member(given, "life", LIVES)
-
-
-def answer_of(value: object, status: int = 200) -> web.Response:
-    return message_of(logs.COMPACT.encode(value).encode(), status)
-
-
-def message_of(message: bytes, status: int = 200) -> web.Response:
-    return web.Response(body=message, status=status, headers=JSON)
-
-
-def failure(status: int, error: str, after: float | None = None, **members: str) -> web.Response:
-    """Returns the answer of a request that is not done, with the seconds after which to retry."""
-    made = answer_of({"error": error, **members}, status)
-    if after is not None:
-        made.headers["Retry-After"] = str(max(1, math.ceil(after)))
-    return made
-
-
-def refused(made: Made[Any]) -> bytes:
-    """Returns the body of the answer of a call that a table refused."""
-    assert made.refusal is not None
-    why = {"refused": word_of(made.refusal.name), "told": made.refusal.carried}
-    return logs.COMPACT.encode(why).encode()
-
-
-def told(made: Made[T], answer: Callable[[T], web.Response]) -> web.Response:
-    """Returns the answer of a call of a table."""
-    if made.refusal is not None:
-        response = message_of(refused(made), 409)
-    else:
-        assert made.result is not None
-        response = answer(made.result)
-    if made.at is not None:
-        response.headers[READING] = str(made.at)
-    return response

@@ -2,23 +2,38 @@
 
 import asyncio
 import json
+import logging
 import ssl
-from collections.abc import Sequence
-from typing import Any, NamedTuple, Protocol
+from collections.abc import Callable, Sequence
+from typing import Any, NamedTuple, Protocol, TypeVar
 from urllib.parse import urlencode
 
 import aiohttp
 
-from hourstable.control import READING, Plane
-from hourstable.jobs import Call, Commit, Malformed, Propose, Renew, Replaced, Take, term_of
+from hourstable.asked import Planes
+from hourstable.calls import READING, Troubles, Wrong, is_reading
+from hourstable.calls import Unreachable as NoAnswer
+from hourstable.control import Plane
+from hourstable.jobs import Replaced
+from hourstable.loads import Piece
 from hourstable.metrics import word_of
 from hourstable.store import Conflict, NoSuchJob, StoreFailed
+from hourstable.system import SYSTEM, System
+from hourstable.table_calls import Call, Commit, Malformed, Propose, Renew, Take, term_of
 from hourstable.tickets import HEADER, Tickets
 from hourstable.transport import Http, Transport
+from hourstable.waiting import within
+
+T = TypeVar("T")
+log = logging.getLogger("hourstable.desk")
 
 
 class Unreachable(Exception):
-    """No control plane did the call. It may be made again."""
+    """No control plane did the call. It may be made again, after `least` seconds at the earliest."""
+
+    def __init__(self, why: str, least: float = 0.0) -> None:
+        super().__init__(why)
+        self.least = least
 
 
 class Told(NamedTuple):
@@ -35,7 +50,7 @@ class Desk(Protocol):
 
     async def jobs(self) -> list[str]: ...
     async def status(self, job: str) -> dict[str, Any]: ...
-    async def loads(self, job: str) -> list[list[Any]]: ...
+    async def loads(self, job: str) -> list[Piece]: ...
     async def assignment(self, job: str) -> bytes | None: ...
     async def take(self, job: str, assigner: int) -> Told: ...
     async def renew(self, job: str, term: int) -> Told: ...
@@ -62,9 +77,9 @@ class LocalDesk:
         except FAILURES as error:
             raise Unreachable(str(error)) from error
 
-    async def loads(self, job: str) -> list[list[Any]]:
-        now = self._plane.settings.system.monotonic()
-        return self._plane.jobs[job].loads.newest(now)
+    async def loads(self, job: str) -> list[Piece]:
+        reports = self._plane.jobs[job].loads.counting(self._plane.settings.system.monotonic())
+        return await asyncio.to_thread(reports.joined)
 
     async def assignment(self, job: str) -> bytes | None:
         return self._plane.jobs[job].job.view.assignment
@@ -94,106 +109,197 @@ class LocalDesk:
         return Told(value, None, made.at)
 
 
+class Reply(NamedTuple):
+    """The answer of a plane to a request."""
+
+    status: int
+    body: bytes
+    reading: int | None
+
+
 class HttpDesk:
-    """The desk of control planes elsewhere: the first of them that answers is asked, until it does
-    not. `transport` brings requests to them in place of HTTP by `tls`; its owner closes it."""
+    """The desk of control planes elsewhere: of each job the one that holds it, as far as it is known. A plane that
+    does not answer, or not as a plane does, is left for the next one. `transport` brings requests to them in place of
+    HTTP by `tls`; its owner closes it."""
 
     def __init__(
         self, urls: Sequence[str], tickets: Tickets, secret: str | None = None,
-        tls: ssl.SSLContext | None = None, transport: Transport | None = None,
+        tls: ssl.SSLContext | None = None, transport: Transport | None = None, system: System = SYSTEM,
     ) -> None:
         self._urls, self._tickets = [url.rstrip("/") for url in urls], tickets
-        self._headers = {"Authorization": f"Bearer {secret}"} if secret else {}
+        self._headers = {"Content-Type": "application/json"}
+        if secret:
+            self._headers["Authorization"] = f"Bearer {secret}"
         self._own = Http(tls)
         self._transport = transport or self._own
+        self._now = system.monotonic
+        self._planes: dict[str, Planes] = {}  # by the job, and those that are asked for the names of jobs
+        self._troubles = Troubles("assigner", log, lambda _: None, self._now)
 
-    async def ask(
-        self, method: str, path: str, body: bytes | None = None, **query: int
-    ) -> tuple[int, bytes, int | None]:
-        """Returns the status, the body and the reading of an answer. Raises Unreachable if no plane
-        answers with less than 429."""
-        why = "there is no control plane"
-        path += f"?{urlencode(query)}" if query else ""
-        for _ in self._urls:
-            asked = asyncio.create_task(self._try(method, self._urls[0] + path, body))
+    def _planes_of(self, job: str) -> Planes:
+        if job not in self._planes:
+            self._planes[job] = Planes(self._urls, self._now, PATIENCE)
+        return self._planes[job]
+
+    async def _read(
+        self, reads: Callable[[Reply], T], method: str, job: str, path: str, body: bytes | None = None
+    ) -> T:
+        """Returns what `reads` makes of the answer of the first plane that does a call. `reads` raises ValueError,
+        LookupError or TypeError at an answer that is none of a plane. Raises Unreachable."""
+        failed, planes = NoAnswer("there is no control plane"), self._planes_of(job)
+        for at in planes.tries():
             try:
-                await asyncio.wait([asked], timeout=PATIENCE)
-                if asked.done():
-                    status, text, reading = asked.result()
-                    if status < 429:
-                        return status, text, reading
-                    why = f"{self._urls[0]}: {status} {text[:200]!r}"
-                else:
-                    why = f"{self._urls[0]}: no answer in {PATIENCE} s"
-            except (aiohttp.ClientError, OSError, ValueError) as error:
-                why = f"{self._urls[0]}: {error!r}"
-            finally:
-                asked.cancel()
-            self._urls.append(self._urls.pop(0))
-        raise Unreachable(why)
+                made = await self._read_at(planes.urls[at], reads, method, path, body)
+            except NoAnswer as why:
+                planes.failed(at, is_silent=not why.status)
+                failed = why
+            else:
+                planes.answered(at)
+                return made
+        raise Unreachable(str(failed), failed.least) from failed
 
-    async def _try(
-        self, method: str, url: str, body: bytes | None
-    ) -> tuple[int, bytes, int | None]:
+    async def _read_at(
+        self, url: str, reads: Callable[[Reply], T], method: str, path: str, body: bytes | None
+    ) -> T:
+        """Returns what `reads` makes of the answer of one plane. Raises NoAnswer."""
+        try:
+            reply = await within(PATIENCE, self._fetch(method, url + path, body))
+        except (aiohttp.ClientError, TimeoutError, OSError, ValueError) as error:
+            raise NoAnswer(f"{url}{path}: {error!r}") from error
+        text = f"{url}{path}: {reply.status} {reply.body[:200]!r}"
+        try:
+            if 200 <= reply.status < 300 or reply.status == 409:
+                return reads(reply)
+        except (ValueError, LookupError, TypeError, RecursionError) as error:
+            wrong = Wrong(f"{text}: {error!r}", "unreadable", status=reply.status)
+            self._troubles.note(url, wrong)
+            raise wrong from error
+        if reply.status in (401, 403, 429):
+            self._troubles.note(url, Wrong(text, str(reply.status), status=reply.status))
+        raise NoAnswer(text, status=reply.status)
+
+    async def _fetch(self, method: str, url: str, body: bytes | None) -> Reply:
         headers = {**self._headers, HEADER: str(self._tickets.draw())}
         status, told, text = await self._transport.fetch(method, url, headers, body)
-        self._tickets.observe_text(told.get(HEADER))
+        try:
+            self._tickets.observe_text(told.get(HEADER))
+        except ValueError as why:  # the answer counts all the same
+            self._troubles.note(url, Wrong(f"{url}: {why}", "ticket"))
         reading = told.get(READING)
-        return status, text, int(reading) if reading else None
-
-    async def _value(self, method: str, path: str, body: object = None) -> dict[str, Any]:
-        given = None if body is None else json.dumps(body).encode()
-        status, text, _ = await self.ask(method, path, given)
-        if status >= 300:
-            raise Unreachable(f"{path}: {status} {text[:200]!r}")
-        value: dict[str, Any] = json.loads(text) if text else {}
-        return value
-
-    async def _told(self, path: str, body: bytes, **query: int) -> Told:
-        status, text, reading = await self.ask("POST", path, body, **query)
-        value = json.loads(text)
-        if status == 409 and "refused" in value:
-            return Told(value["told"], value["refused"], reading)
-        if status != 200:
-            raise Unreachable(f"{path}: {status} {text[:200]!r}")
-        return Told(value, None, reading)
+        if reading is not None and not is_reading(reading):
+            raise ValueError(f"the reading {reading[:40]!r} is none of a table")
+        return Reply(status, text, None if reading is None else int(reading))
 
     async def jobs(self) -> list[str]:
-        found: list[str] = (await self._value("GET", "/jobs"))["jobs"]
-        return found
+        return await self._read(_names_in, "GET", "", "/jobs")
 
     async def status(self, job: str) -> dict[str, Any]:
-        return await self._value("GET", f"/jobs/{job}")
-
-    async def loads(self, job: str) -> list[list[Any]]:
-        found: list[list[Any]] = (await self._value("GET", f"/jobs/{job}/loads"))["loads"]
+        """Returns what is known of a job: by the plane that holds it, if one that answers does."""
+        planes, found = self._planes_of(job), dict[str, Any]()
+        failed = NoAnswer("there is no control plane")
+        for at in planes.tries():
+            try:
+                told = await self._read_at(planes.urls[at], _status_in, "GET", f"/jobs/{job}", None)
+            except NoAnswer as why:
+                planes.failed(at, is_silent=not why.status)
+                failed = why
+                continue
+            if told["holder"]:
+                planes.answered(at)
+                return told
+            planes.failed(at, is_silent=False)  # it stands by
+            found = found or told
+        if not found:
+            raise Unreachable(str(failed), failed.least)
         return found
+
+    async def loads(self, job: str) -> list[Piece]:
+        return await self._read(_loads_in, "GET", job, f"/jobs/{job}/loads")
 
     async def assignment(self, job: str) -> bytes | None:
         status = await self.status(job)
         if not status["committed"]:
             return None
-        after = status["committed"] - 1
-        code, text, _ = await self.ask("GET", f"/jobs/{job}/assignment", after=after)
-        return text if code == 200 else None
+        path = f"/jobs/{job}/assignment?{urlencode({'after': status['committed'] - 1})}"
+        return await self._read(_assignment_in, "GET", job, path)
 
     async def take(self, job: str, assigner: int) -> Told:
-        return await self._told(f"/jobs/{job}/take", json.dumps({"assigner": assigner}).encode())
+        return await self._told(job, "take", json.dumps({"assigner": assigner}).encode())
 
     async def renew(self, job: str, term: int) -> Told:
-        return await self._told(f"/jobs/{job}/renew", json.dumps({"term": term}).encode())
+        return await self._told(job, "renew", json.dumps({"term": term}).encode())
 
     async def propose(self, job: str, term: int, assignment: bytes) -> Told:
-        return await self._told(f"/jobs/{job}/propose", assignment, term=term)
+        return await self._told(job, f"propose?{urlencode({'term': term})}", assignment)
 
     async def commit(self, job: str, term: int, generation: int) -> Told:
         body = json.dumps({"term": term, "generation": generation}).encode()
-        return await self._told(f"/jobs/{job}/commit", body)
+        return await self._told(job, "commit", body)
+
+    async def _told(self, job: str, call: str, body: bytes) -> Told:
+        return await self._read(_told_in, "POST", job, f"/jobs/{job}/{call}", body)
 
     async def drain(self, job: str, task: int) -> None:
         """Drains the current life of a task."""
-        await self._value("POST", f"/jobs/{job}/drain", {"task": task})
+        body = json.dumps({"task": task}).encode()
+        await self._read(_nothing_in, "POST", job, f"/jobs/{job}/drain", body)
 
     async def close(self) -> None:
         """Closes all connections."""
         await self._own.close()
+
+
+def _value_in(reply: Reply) -> dict[str, Any]:
+    value = json.loads(reply.body)
+    if not isinstance(value, dict) or reply.status == 409:
+        raise ValueError("an answer is no object of a plane")
+    return value
+
+
+def _nothing_in(reply: Reply) -> None:
+    if reply.status != 204:
+        raise ValueError(f"{reply.status} in place of 204")
+
+
+def _names_in(reply: Reply) -> list[str]:
+    names = _value_in(reply)["jobs"]
+    if not isinstance(names, list) or not all(isinstance(name, str) for name in names):
+        raise ValueError("jobs is no list of names")
+    return names
+
+
+def _status_in(reply: Reply) -> dict[str, Any]:
+    value = _value_in(reply)
+    forms: dict[str, Any] = {
+        "holder": bool, "policy": dict, "committed": int, "rows": list, "alive": list, "draining": list,
+        "pending": int | None, "term": dict | None, "since_commit": int | float,
+    }
+    for name, form in forms.items():
+        if not isinstance(value[name], form):
+            raise ValueError(f"{name} is of another form")
+    return value
+
+
+def _loads_in(reply: Reply) -> list[Piece]:
+    loads = _value_in(reply)["loads"]
+    if not isinstance(loads, list) or not all(isinstance(it, list) and len(it) == 3 for it in loads):
+        raise ValueError("loads is no list of ranges")
+    return [(int(low), int(high), int(load)) for low, high, load in loads]
+
+
+def _assignment_in(reply: Reply) -> bytes | None:
+    if reply.status == 204:
+        return None
+    _value_in(reply)
+    return reply.body
+
+
+def _told_in(reply: Reply) -> Told:
+    value = json.loads(reply.body)
+    if not isinstance(value, dict):
+        raise ValueError("an answer is no object")
+    if reply.status == 409:
+        if not isinstance(value["told"], dict) or not isinstance(value["refused"], str):
+            raise ValueError("a refusal is of another form")
+        return Told(value["told"], value["refused"], reply.reading)
+    return Told(value, None, reply.reading)

@@ -9,7 +9,8 @@ call restores a table from what is stored, as after a restart.
 
 import asyncio
 import json
-from abc import ABC, abstractmethod
+import logging
+import os
 from collections import OrderedDict, deque
 from collections.abc import Awaitable, Callable, Sequence
 from dataclasses import dataclass, field
@@ -18,16 +19,17 @@ from typing import Any, Generic, NamedTuple, TypeVar
 
 from hourstable import library, logs
 from hourstable.clock import JobClock
-from hourstable.library import JobTerm, Policy, Refused, Table
-from hourstable.store import Conflict, Life, NoSuchJob, Store, Stored, StoreFailed
-from hourstable.system import SYSTEM, System
+from hourstable.library import Policy, Refused, Table
+from hourstable.standstill import Standstill
+from hourstable.store import Conflict, Damaged, Life, NoSuchJob, Store, Stored, StoreFailed
+from hourstable.system import SYSTEM, System, make_folder
+from hourstable.table_calls import Call, Malformed, numbers_of, term_in, value_in
 from hourstable.tickets import Tickets, process_of
 
+log = logging.getLogger("hourstable.jobs")
 T = TypeVar("T")
-MOST_NOTES = 4096  # of which a job remembers the answers
 MOST_TOGETHER = 256  # calls that are stored by one write
 WORDS = ("skew", "guard", "bridge", "job", "numbers")
-TERM = "term"  # the key of the calls of assigners
 
 
 class Replaced(Exception):
@@ -37,10 +39,6 @@ class Replaced(Exception):
     def __init__(self, after: float) -> None:
         super().__init__("another control plane holds the job")
         self.after = after
-
-
-class Malformed(Exception):
-    """The body of a call cannot be read."""
 
 
 def policy_of(given: object) -> tuple[Policy, dict[str, Any]]:
@@ -125,7 +123,7 @@ class Made(NamedTuple, Generic[T]):
 class Waiting(NamedTuple):
     """A call of a table, and who waits for its answer."""
 
-    call: "Call[Any]"
+    call: Call[Any]
     answer: "asyncio.Future[Made[Any]]"
 
     def tell(self, made: Made[Any]) -> None:
@@ -159,6 +157,7 @@ class Settings:
     ticks_ahead: int = 1000
     local: Callable[[], int] = field(default=SYSTEM.ticks)
     system: System = SYSTEM
+    keep_logs: int | None = None  # days for which files of logs are kept; None for ever
 
 
 class Counters:
@@ -176,6 +175,9 @@ class Counters:
     def stored(self, what: str, seconds: float, failed: bool) -> None:
         """The store was asked."""
 
+    def internal_error(self, where: str) -> None:
+        """Something failed that nobody expected."""
+
 
 class Job:
     """A job of the plane. All of it runs in one event loop."""
@@ -191,8 +193,8 @@ class Job:
         self._working: asyncio.Task[None] | None = None  # while calls wait
         self._held: Held | None = None
         self._log: logs.Log | None = None
-        self._seen: tuple[int, float] | None = None  # a version, and since when it stands
-        self._changed = asyncio.Event()
+        self._seen = Standstill(self._now, settings.standby / 4)
+        self._wakes: set[asyncio.Future[None]] = set()  # those who wait for another view
         self._rows: list[library.Row] = []
         self._owners: tuple[bytes | None, set[int]] = None, set()  # those of an assignment
         self.policy: Policy | None = None
@@ -205,6 +207,17 @@ class Job:
         self.notes: OrderedDict[str, int] = OrderedDict()  # the answers to them
         self.committed_by: tuple[int, int] | None = None  # the last term, and its generation
 
+    def try_log(self) -> None:
+        """Raises OSError if the log of the job cannot be written."""
+        folder = make_folder(logs.folder_of(self.settings.logs, self.name))
+        path, system = folder / f".control-{self.settings.process}.tried", self.settings.system
+        file = system.open(path, os.O_WRONLY | os.O_CREAT | os.O_CLOEXEC, 0o600)
+        try:
+            system.write(file, b"\n")
+        finally:
+            system.close(file)
+            path.unlink(missing_ok=True)
+
     # Asking the store ------------------------------------------------------------------------
 
     async def ask(self, what: str, call: Callable[..., Awaitable[T]], *given: object) -> T:
@@ -214,11 +227,18 @@ class Job:
             made = await call(*given)
             failed = False
             return made
-        except (Conflict, NoSuchJob):
+        except (Conflict, NoSuchJob, Damaged):
             failed = False
+            raise
+        except StoreFailed:
+            self.unsee()
             raise
         finally:
             self._counters.stored(what, self._now() - begun, failed)
+
+    def unsee(self) -> None:
+        """Takes that the store did not answer: for how long the row stands still is not known."""
+        self._seen.forget()
 
     async def load(self) -> None:
         """Reads what is stored, for those who only ask. Raises NoSuchJob."""
@@ -227,44 +247,62 @@ class Job:
                 self._show(await self._loaded())
 
     async def _loaded(self) -> Stored:
+        begun = self._now()
         stored = await self.ask("load", self._store.load, self.name)
         if stored is None:
             raise NoSuchJob(self.name)
         self._observe(stored)
-        if self._seen is None or self._seen[0] != stored.version:
-            self._seen = stored.version, self._now()
+        self._seen.saw(stored.version, self._now() - begun)
         if self.policy is None:
-            self.policy, self.members = policy_of(json.loads(stored.policy))
-            job_line = logs.job_line(self.members)
+            policy, members = self._policy_in(stored)
             folder = logs.folder_of(self.settings.logs, self.name)
-            name, system = f"control-{self.settings.process}", self.settings.system
-            self._log = logs.Log(folder, name, job_line, system=system)
+            given = f"control-{self.settings.process}", logs.job_line(members)
+            settings = self.settings
+            self._log = logs.Log(folder, *given, keep=settings.keep_logs, system=settings.system)
+            self.policy, self.members = policy, members
         return stored
+
+    def _policy_in(self, stored: Stored) -> tuple[Policy, dict[str, Any]]:
+        try:
+            return policy_of(json.loads(stored.policy))
+        except (ValueError, Malformed) as error:
+            raise Damaged(f"the policy that is stored of {self.name} cannot be read: {error}") from error
 
     def _observe(self, stored: Stored) -> None:
         """Observes the ticket of the line that is stored: what is shown of it comes after the call
-        that stored it."""
+        that stored it. Raises Damaged."""
         if stored.line is None:
             return
         try:
             self.tickets.observe(Row.read(stored.line).ticket())
-        except ValueError as error:  # a host whose real time is a day ahead wrote it
-            raise StoreFailed(f"the line that is stored of {self.name}: {error}") from error
+        except (ValueError, KeyError, TypeError, IndexError) as error:
+            raise Damaged(f"the line that is stored of {self.name} cannot be read: {error!r}") from error
 
     async def refresh(self) -> None:
-        """Looks whether another plane has written, and reads the lives of tasks."""
+        """Looks whether another plane has written, and reads the lives of tasks. Calls do not wait for it."""
+        self.lives = await self.ask("lives", self._store.lives, self.name)
+        if not await self._is_changed():
+            return
         async with self._lock:
-            self.lives = await self.ask("lives", self._store.lives, self.name)
-            version = await self.ask("version", self._store.version, self.name)
-            if version is None:
-                raise NoSuchJob(self.name)
-            if self._held is not None:
-                if self._held.version == version:
-                    return
+            if self._held is None:
+                self._show(await self._loaded())
+            elif await self._is_changed():  # no call was stored meanwhile
                 self.drop()
                 self._counters.replaced(self.name)
-            if self._seen is None or self._seen[0] != version:
                 self._show(await self._loaded())
+
+    async def _is_changed(self) -> bool:
+        """Returns whether the row has another version than the one that is held, or was seen last."""
+        begun = self._now()
+        version = await self.ask("version", self._store.version, self.name)
+        if version is None:
+            raise NoSuchJob(self.name)
+        if self._held is not None:
+            return self._held.version != version
+        if version != self._seen.version:
+            return True
+        self._seen.saw(version, self._now() - begun)
+        return False
 
     async def raise_life(self, task: int) -> int:
         """Returns a new life of a task, which no other call returns."""
@@ -290,7 +328,7 @@ class Job:
         try:
             return Table.restore(self.name, self.policy, stored.kept)
         except Refused as refusal:
-            raise StoreFailed(f"what is stored of {self.name} is refused: {refusal}") from refusal
+            raise Damaged(f"what is stored of {self.name} is refused: {refusal}") from refusal
 
     def _show_table(self, table: Table) -> None:
         phase = table.phase()
@@ -306,16 +344,20 @@ class Job:
 
     def wake(self) -> None:
         """Wakes all who wait for another view."""
-        self._changed.set()
-        self._changed = asyncio.Event()
+        for waking in list(self._wakes):
+            _wake(waking)
 
     async def changed(self, seconds: float) -> None:
         """Returns when the view is another one, or after these seconds."""
-        waiting = asyncio.create_task(self._changed.wait())
+        loop = asyncio.get_running_loop()
+        waking = loop.create_future()
+        timer = loop.call_later(seconds, _wake, waking)
+        self._wakes.add(waking)
         try:
-            await asyncio.wait([waiting], timeout=seconds)
+            await waking
         finally:
-            waiting.cancel()
+            timer.cancel()
+            self._wakes.discard(waking)
 
     @property
     def is_held(self) -> bool:
@@ -344,7 +386,7 @@ class Job:
     def drop(self) -> None:
         """Drops the table: what the store has is the table from now on."""
         held, self._held = self._held, None
-        self._seen = None
+        self._seen.forget()
         self.notes.clear()
         self.committed_by = None
         if held is not None:
@@ -361,11 +403,11 @@ class Job:
 
     def _stand_by(self, stored: Stored) -> None:
         """Raises Replaced if another plane wrote last, and not long enough ago."""
-        if not self.settings.shared or stored.line is None or self._seen is None:
+        if not self.settings.shared or stored.line is None:
             return
         if process_of(Row.read(stored.line).ticket()) == self.settings.process:
             return
-        left = self._seen[1] + self.settings.standby - self._now()
+        left = self.settings.standby - self._seen.seconds()
         if left > 0:
             raise Replaced(left)
 
@@ -379,7 +421,7 @@ class Job:
         if row is not None:
             await clock.wait()
             version, line = await self._write_restore(stored, row)
-        self._seen = None
+        self._seen.forget()
         table = self._restored(stored)
         return Held(table, clock, version, stored.kept, last, last, last, line)
 
@@ -387,7 +429,7 @@ class Job:
         """Logs the last calls that are stored, if that was not done, and stores and logs that the
         table is restored. Returns the new version and the line."""
         assert self._log is not None
-        lacking = self._log.lacking(row.lines)
+        lacking = await asyncio.to_thread(self._log.lacking, row.lines)
         if lacking:
             self._log.append(*lacking)
         value = json.loads(stored.kept)["value"]
@@ -406,7 +448,7 @@ class Job:
 
     # Calls of the table ----------------------------------------------------------------------
 
-    def call(self, call: "Call[T]") -> "asyncio.Future[Made[T]]":
+    def call(self, call: Call[T]) -> "asyncio.Future[Made[T]]":
         """Makes a call of the table. What is returned is done when the store has its effect.
 
         It raises Replaced, StoreFailed and NoSuchJob; Malformed if the library cannot read what it
@@ -432,16 +474,26 @@ class Job:
         try:
             while self._waiting:
                 async with self._lock:
-                    await self._make(self._next_together())
+                    together = self._next_together()
+                    if together:
+                        await self._make(together)
+        except Exception as error:  # which nobody expected: no call is to wait for ever
+            log.exception("%s: calls are not made", self.name)
+            self._counters.internal_error("job")
+            for one in self._all_waiting():
+                one.fail(error)
         finally:
             self._working = None
 
     def _next_together(self) -> list[Waiting]:
         """Takes the calls that are made together: those that wait, up to one whose answer may
-        depend on whether the store has an earlier one of them."""
+        depend on whether the store has an earlier one of them. Those that were given up are left out."""
         taken: list[Waiting] = []
         known: set[str] = set()
         while self._waiting and len(taken) < MOST_TOGETHER:
+            if self._waiting[0].answer.done():
+                self._waiting.popleft()
+                continue
             key = self._waiting[0].call.key
             if key is not None:
                 if key in known:
@@ -453,6 +505,7 @@ class Job:
     async def _make(self, together: list[Waiting]) -> None:
         """Makes calls, stores and logs them, in this order, and answers each."""
         error: Exception
+        begun = self._now()
         try:
             held = await self._hold()
             at = await held.clock.wait()
@@ -469,6 +522,8 @@ class Job:
             return
         except Exception as why:
             error = why
+            if isinstance(why, StoreFailed) and self._now() - begun > self._store.deadline / 2:
+                together += self._all_waiting()  # it stands still, and would keep them up as long
         except BaseException:
             self.drop()
             for one in together:
@@ -477,6 +532,12 @@ class Job:
         self.drop()  # the table may have what the store has not
         for one in together:
             one.fail(error)
+
+    def _all_waiting(self) -> list[Waiting]:
+        """Takes all calls that wait."""
+        waiting = list(self._waiting)
+        self._waiting.clear()
+        return waiting
 
     def _play(self, held: Held, together: list[Waiting], at: int) -> list[Played]:
         """Plays calls on the table, and returns those that are to be stored. Those that repeat an
@@ -594,198 +655,6 @@ class Job:
             self._log.close()
 
 
-class Call(ABC, Generic[T]):
-    """A call of a table: its name in logs, and the members of its line. `repeated` asks what earlier
-    calls of the same key did; None if it asks nothing."""
-
-    do: str
-    members: dict[str, object]
-    key: str | None = None
-
-    @abstractmethod
-    def play(self, table: Table, at: int) -> T:
-        """Calls the library. Raises Refused."""
-
-    @abstractmethod
-    def tell(self, result: T) -> str:
-        """Returns the reply of the line."""
-
-    def repeated(self, job: Job) -> T | None:
-        """Returns the result of an earlier call that this one repeats, None if it repeats none."""
-        return None
-
-    def done(self, job: Job, result: T) -> None:
-        """Remembers the call, which is stored."""
-
-
-class Grant(Call[bytes]):
-    """A task asks for a lease. Its result is the message of the grant."""
-
-    do = "grant"
-
-    def __init__(self, task: int, life: int) -> None:
-        self.task, self.life = task, life
-        self.members = {"task": task, "life": life}
-
-    def play(self, table: Table, at: int) -> bytes:
-        return table.grant(self.task, self.life, at)
-
-    def tell(self, result: bytes) -> str:
-        return logs.told_grant(value_in(result))
-
-
-class Free(Call[int]):
-    """A task gives leases back by a note. Its result is how many rows were freed."""
-
-    do = "free"
-
-    def __init__(self, note: bytes) -> None:
-        self.note, value = note, value_in(note)
-        self.members = {"note": value}
-        self.key: str = json.dumps(value, sort_keys=True)
-
-    def play(self, table: Table, at: int) -> int:
-        return table.free(self.note, at)
-
-    def tell(self, result: int) -> str:
-        return f"freed {result}"
-
-    def repeated(self, job: Job) -> int | None:
-        return job.notes.get(self.key)
-
-    def done(self, job: Job, result: int) -> None:
-        job.notes[self.key] = result
-        while len(job.notes) > MOST_NOTES:
-            job.notes.popitem(last=False)
-
-
-class OfTerm(Call[JobTerm]):
-    """A call that begins or prolongs a term of the job lease. Its result is the term."""
-
-    key = TERM
-    told: str
-
-    def tell(self, result: JobTerm) -> str:
-        return f"{self.told} {result.number} until {result.until}"
-
-    def done(self, job: Job, result: JobTerm) -> None:
-        job.term = term_of(result)
-
-
-class Take(OfTerm):
-    """An assigner takes the job lease."""
-
-    do, told = "take", "term"
-
-    def __init__(self, assigner: int) -> None:
-        self.assigner = assigner
-        self.members = {"assigner": assigner}
-
-    def play(self, table: Table, at: int) -> JobTerm:
-        return table.take(self.assigner, at)
-
-
-class Renew(OfTerm):
-    """The holder of a term renews it."""
-
-    do, told = "renew", "renewed"
-
-    def __init__(self, term: int) -> None:
-        self.term = term
-        self.members = {"term": term}
-
-    def play(self, table: Table, at: int) -> JobTerm:
-        return table.renew(self.term, at)
-
-
-class Propose(Call[int]):
-    """The holder of a term proposes an assignment. Its result is the generation."""
-
-    do = "propose"
-    key = TERM
-
-    def __init__(self, term: int, assignment: bytes) -> None:
-        self.term, self.assignment = term, assignment
-        self.value = numbers_of(value_in(assignment))
-        self.members = {"term": term, **self.value}
-
-    def play(self, table: Table, at: int) -> int:
-        table.propose(self.term, self.assignment, at)
-        generation: int = self.value["generation"]
-        return generation
-
-    def tell(self, result: int) -> str:
-        return f"proposed {result}"
-
-    def repeated(self, job: Job) -> int | None:
-        kept = job.kept()
-        if not kept["pending"] or numbers_of(kept["pending"]) != self.value:
-            return None
-        generation: int = self.value["generation"]
-        return generation if int(kept["term"]["number"]) == self.term else None
-
-
-class Commit(Call[int]):
-    """The holder of a term commits what is proposed. Its result is the generation.
-
-    A call with the generation repeats an earlier one if this generation is committed and nothing
-    is proposed; one without it, if the last commit of this process was of the same term.
-    """
-
-    do = "commit"
-    key = TERM
-
-    def __init__(self, term: int, generation: int | None) -> None:
-        self.term, self.generation = term, generation
-        self.members = {"term": term}
-
-    def play(self, table: Table, at: int) -> int:
-        return table.commit(self.term, at)
-
-    def tell(self, result: int) -> str:
-        return f"committed {result}"
-
-    def repeated(self, job: Job) -> int | None:
-        committed, proposed, _ = job.view
-        if proposed or job.term is None or job.term["number"] != self.term:
-            return None
-        if self.generation is None:
-            return committed if job.committed_by == (self.term, committed) else None
-        return committed if committed and self.generation == committed else None
-
-    def done(self, job: Job, result: int) -> None:
-        job.committed_by = (self.term, result)
-
-
-def value_in(message: bytes) -> dict[str, Any]:
-    """Returns the value of a message. Raises Malformed if it has none; the library checks the
-    rest."""
-    try:
-        value = json.loads(message)["value"]
-    except (ValueError, KeyError, TypeError, RecursionError) as error:
-        raise Malformed("the body is not a message") from error
-    if not isinstance(value, dict):
-        raise Malformed("the body is not a message")
-    return value
-
-
-def numbers_of(assignment: dict[str, Any]) -> dict[str, Any]:
-    """Returns an assignment with numbers, which a message may have as the text of their digits.
-    Raises Malformed."""
-    try:
-        slices = [[int(start), [int(owner) for owner in owners]]
-                  for start, owners in assignment["slices"]]
-        return {"generation": int(assignment["generation"]), "slices": slices}
-    except (KeyError, TypeError, ValueError, OverflowError) as error:  # 1e999 is no whole number
-        raise Malformed("the body is not an assignment") from error
-
-
-def term_of(term: JobTerm) -> dict[str, int]:
-    """Returns the members of a term of the job lease."""
-    return {"number": term.number, "assigner": term.assigner, "until": term.until}
-
-
-def term_in(kept: bytes) -> dict[str, int] | None:
-    """Returns the last term of the job lease in kept values."""
-    term = json.loads(kept)["value"]["term"]
-    return {name: int(number) for name, number in term.items()} if term else None
+def _wake(waking: "asyncio.Future[None]") -> None:
+    if not waking.done():
+        waking.set_result(None)

@@ -8,10 +8,11 @@ only name the lease, term or reading that decided.
 from dataclasses import dataclass
 from typing import Any
 
-from hourstable.jobs import Job, numbers_of
+from hourstable.jobs import Job
 from hourstable.lanes import Given, Lanes
 from hourstable.library import Clerk, Refused, Slicelet, slice_key
 from hourstable.plans import message_of
+from hourstable.table_calls import numbers_of
 
 
 @dataclass

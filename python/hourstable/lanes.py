@@ -7,10 +7,11 @@ from collections import Counter, deque
 from dataclasses import dataclass
 from typing import Any, NamedTuple
 
-from hourstable.jobs import Call, Commit, Free, Grant, Job, Made, Propose, Renew, Take, value_in
+from hourstable.jobs import Job, Made
 from hourstable.library import GrantRead, JobTerm, read_grant
 from hourstable.logs import told_refusal
 from hourstable.metrics import word_of
+from hourstable.table_calls import Call, Commit, Free, Grant, Propose, Renew, Take, value_in
 
 WINDOW = 600_000  # ticks for which what has ended is remembered
 MOST = 4096  # of each sort that are remembered

@@ -9,12 +9,13 @@ from collections.abc import Callable, Mapping
 from functools import partial
 from typing import Any, TypeVar
 
+from .kept_log import KeptLog
 from .library import KINDS as NUMBERS
 from .library import (
     CALLS, KeyHandle, LoggedCall, Phase, Policy, Refused, Served, Slicelet, TaskClock,
     clock_evidence, log_line,
 )
-from .logs import Log, line_of, value_of
+from .logs import NoLog, line_of, value_of
 from .ranges import Ranges, minus, ranges_of, union
 from .tickets import Tickets
 
@@ -56,7 +57,7 @@ class Leases:
         clock: TaskClock,
         local_clock: Callable[[], int],
         tickets: Tickets,
-        log: Log,
+        log: KeptLog | NoLog,
     ) -> None:
         self.job, self.task, self.life = job, task, life
         self.clock, self.local_clock = clock, local_clock
@@ -65,7 +66,8 @@ class Leases:
         self._tickets, self._log = tickets, log
         self._slicelet = Slicelet.resume(job, task, last)
         opened = LoggedCall(ticket=tickets.draw(), call=CALLS["open"], task=task, life=last)
-        log.append(log_line(job, opened))
+        if log.is_kept:
+            log.append(log_line(job, opened))
 
     def close(self) -> None:
         """Destroys the slicelet. Nothing is released."""
@@ -82,8 +84,9 @@ class Leases:
         """Takes an answer of the table to a request that was sent at the local reading `sent`."""
         now = self.local_clock()
         self.clock.sample(sent, reading, now)
-        members = {"task": self.task, "sent": sent, "reading": reading, "now": now}
-        self._log.append(line_of(self._tickets.draw(), "sample", "sampled", **members))
+        if self._log.is_kept:
+            members = {"task": self.task, "sent": sent, "reading": reading, "now": now}
+            self._log.append(line_of(self._tickets.draw(), "sample", "sampled", **members))
 
     def is_sampled(self) -> bool:
         """Whether the clock has heard an answer of the table."""
@@ -119,21 +122,23 @@ class Leases:
         self.held.pop(kind, None)
         return note
 
-    def serve(self, slice_key: int) -> Served:
-        """Asks whether the task may serve the keys of a slice key."""
+    def serve(self, slice_key: int, is_logged: bool = True) -> Served:
+        """Asks whether the task may serve the keys of a slice key. Like the calls of a hold and of its checks, it may
+        be left out of the log: it changes nothing."""
         return self._call(
-            "serve", lambda at: self._slicelet.serve_at(slice_key, at), slice_key=slice_key
+            "serve", lambda at: self._slicelet.serve_at(slice_key, at), is_logged=is_logged, slice_key=slice_key
         )
 
-    def hold(self, slice_key: int) -> KeyHandle:
+    def hold(self, slice_key: int, is_logged: bool = True) -> KeyHandle:
         """Takes a handle on the keys of a slice key."""
         return self._call(
-            "hold", lambda at: self._slicelet.hold_at(slice_key, at), slice_key=slice_key
+            "hold", lambda at: self._slicelet.hold_at(slice_key, at), is_logged=is_logged, slice_key=slice_key
         )
 
-    def check(self, handle: KeyHandle) -> None:
-        """Raises Refused unless the task has held the key of a handle without a break."""
-        self._call("check", lambda at: self._slicelet.check(handle, at), handle=handle)
+    def check(self, handle: KeyHandle, is_logged: bool = True) -> None:
+        """Raises Refused unless the task has held the key of a handle without a break. It is logged if the hold
+        was."""
+        self._call("check", lambda at: self._slicelet.check(handle, at), is_logged=is_logged, handle=handle)
 
     def live(self, at: int) -> Ranges:
         """Returns the keys of the leases that have not ended at a reading."""
@@ -152,9 +157,11 @@ class Leases:
         return lost
 
     def _call(
-        self, do: str, ask: Callable[[int], Made], message: bytes = b"", **members: Any
+        self, do: str, ask: Callable[[int], Made], message: bytes = b"", is_logged: bool = True, **members: Any
     ) -> Made:
         """Makes a call, and writes its line. A note and a handle that it made are in the line."""
+        if not (is_logged and self._log.is_kept):
+            return ask(self.read())
         call = LoggedCall(self._tickets.draw(), CALLS[do], task=self.task, **members)
         call.at = self.read()
         try:

@@ -3,11 +3,17 @@
 A log has the files NAME.YYYY-MM-DD.jsonl of a folder, which is that of the job. Each begins with
 the job line. A line has left the process when `append` returns: a process that is killed later
 loses none.
+
+Space is allocated ahead of the lines, so a disk that is full tears no line and takes one that says
+what is missing. A line that begins with `{"gap":` is no call: it says which calls the log lacks, as
+the disk did not take them or their file was removed. `hourstable-service audit` reads it, and
+`hourstable audit` refuses a log that has one.
 """
 
+import datetime
 import hashlib
 import json
-import mmap
+import logging
 import os
 import re
 import time
@@ -16,13 +22,19 @@ from functools import partial
 from pathlib import Path
 from typing import Any
 
-from hourstable.system import SYSTEM, System
+from hourstable.segments import GrowingFile
+from hourstable.system import SYSTEM, System, make_folder
 
 ASSIGNERS, TASKS = 8, 64  # the most that a job may have
 CLERKS = 128  # as many as have a ticket process of their own
 ENDING = ".jsonl"
+GAP = b'{"gap":'  # the beginning of a line that is no call
+PIECE = 1 << 20  # bytes of a file that are looked through at a time
 COMPACT = json.JSONEncoder(separators=(",", ":"))
 NAME = re.compile(r"[A-Za-z0-9_-][A-Za-z0-9._-]{0,63}")
+TICKET = re.compile(rb'\n\{"ticket":(\d{1,20}),')
+DAY = re.compile(r"\.(\d{4}-\d\d-\d\d)\.jsonl$")
+log = logging.getLogger("hourstable.logs")
 
 
 def job_line(policy: Mapping[str, object]) -> str:
@@ -80,13 +92,29 @@ def utc_day(system: System = SYSTEM) -> str:
     return time.strftime("%Y-%m-%d", time.gmtime(system.real_nanoseconds() // 1_000_000_000))
 
 
+def days_before(day: str, days: int) -> str:
+    """Returns the day that is so many days before one."""
+    return (datetime.date.fromisoformat(day) - datetime.timedelta(days)).isoformat()
+
+
+def day_of(path: Path) -> str:
+    """Returns the day of a file of a log, as YYYY-MM-DD; one that never comes if its name has none."""
+    found = DAY.search(path.name)
+    return found[1] if found else "9999-12-31"
+
+
 class Log:
     """The log of a process for a job.
 
-    Raises ValueError if the file of today begins with another job line. A file whose last line was
-    torn, as by a kill while it was written, is mended: the line is ended if it is a call, and else
-    left out.
+    A file whose last line was torn, as by a kill while it was written, is mended: the line is ended
+    if it is a call, and else left out. With `keep`, files that are more than so many days old are
+    removed at the start and each day, and a line of the log says so.
+
+    Raises OSError if the file of today cannot be opened, and ValueError if it begins with another
+    job line.
     """
+
+    is_kept = True  # whether lines that are appended are of use to anybody
 
     def __init__(
         self,
@@ -95,90 +123,170 @@ class Log:
         job: str,
         *,
         today: Callable[[], str] | None = None,
+        keep: int | None = None,
         system: System = SYSTEM,
     ) -> None:
         self.folder, self.name, self.job = Path(folder), name, job
-        self._system = system
-        self._today, self._day, self._file = today or partial(utc_day, system), "", -1
-        self.folder.mkdir(parents=True, exist_ok=True)
+        self._system, self._keep = system, keep
+        self._today, self._day = today or partial(utc_day, system), ""
+        self._file: GrowingFile | None = None
+        make_folder(self.folder)
         self._turn_to(self._today())
 
     def append(self, *lines: str) -> None:
-        """Writes lines, which the system has when this returns."""
-        day = self._today()
-        if day != self._day:
-            self._turn_to(day)
-        _write_all(self._system, self._file, "".join(f"{line}\n" for line in lines).encode())
+        """Writes lines, which the system has when this returns. Raises OSError, as of a full disk;
+        the file then has none of them, and a line that they are missing, as far as there is room."""
+        try:
+            day = self._today()
+            if day != self._day:
+                self._turn_to(day)
+            self._opened.append(_bytes_of(*lines))
+        except OSError:
+            self._tell_gap(lines)
+            raise
 
     def lacking(self, lines: Sequence[str]) -> list[str]:
         """Returns those of the lines that are not in the two newest files. The lines are of line_of
-        and were appended together, so if the first one is missing, all are."""
-        files = sorted(self.folder.glob(f"{self.name}.*{ENDING}"))[-2:]
+        and were appended together, so if the first one is missing, all are. It reads the files,
+        which may take a while."""
+        files = self._files()[-2:]
         found = {line for path in files for line in _lines_from(path, lines[0].encode())}
         return [line for line in lines if line.encode() not in found]
 
     def close(self) -> None:
         """Closes the file. Nothing is written later."""
-        if self._file >= 0:
-            self._system.close(self._file)
-        self._file, self._day = -1, ""
+        if self._file is not None:
+            self._file.close()
+        self._file, self._day = None, ""
+
+    @property
+    def _opened(self) -> GrowingFile:
+        if self._file is None:
+            raise ValueError(f"the log {self.name} is closed")
+        return self._file
+
+    def _tell_gap(self, lines: Sequence[str]) -> None:
+        tickets = [ticket_of(line.encode(), 0) for line in lines]
+        try:
+            if self._file is not None:
+                self._file.append_spare(_bytes_of(gap_line(len(lines), tickets[0], tickets[-1])))
+        except OSError:
+            pass  # who goes on with the log may tell it then
 
     def _turn_to(self, day: str) -> None:
         path = self.folder / f"{self.name}.{day}{ENDING}"
-        flags = os.O_RDWR | os.O_CREAT | os.O_APPEND | os.O_CLOEXEC
-        file = self._system.open(path, flags, 0o644)
+        file = GrowingFile(self._system, path)
         try:
-            _mend(self._system, file)
-            self._begin(file, path)
+            _mend(file)
+            self._head(file, path)
+            if self._keep is not None:
+                self._remove_before(days_before(day, self._keep), file)
         except BaseException:
-            self._system.close(file)
+            file.close()
             raise
         self.close()
         self._file, self._day = file, day
 
-    def _begin(self, file: int, path: Path) -> None:
-        first = self.job.encode() + b"\n"
-        found = os.pread(file, len(first), 0)
+    def _head(self, file: GrowingFile, path: Path) -> None:
+        first = _bytes_of(self.job)
+        found = file.read(0, len(first))
         if not found:
-            _write_all(self._system, file, first)
+            file.append(first)
         elif found != first:
             raise ValueError(f"{path} begins with another job line")
 
+    def _files(self) -> list[Path]:
+        return sorted(self.folder.glob(f"{self.name}.*{ENDING}"))
 
-def _write_all(system: System, file: int, data: bytes) -> None:
-    while data:
-        data = data[system.write(file, data):]
+    def _remove_before(self, day: str, file: GrowingFile) -> None:
+        """Removes the files of days before this one, and says so in the file of today."""
+        for path in self._files():
+            if day_of(path) >= day:
+                continue
+            try:
+                first, last = first_ticket(path), last_ticket(path)
+                if last:
+                    file.append(_bytes_of(gap_line(0, first, last, file=path.name)))
+                path.unlink()
+            except OSError as error:
+                log.warning("%s was not removed: %s", path, error)
 
 
-def _mend(system: System, file: int) -> None:
+class NoLog:
+    """In place of a log that is left out."""
+
+    is_kept = is_stopped = False
+
+    def append(self, *lines: str) -> None:
+        """Does nothing."""
+
+    def is_ready(self) -> bool:
+        return False
+
+    def go_on(self) -> None:
+        """Does nothing."""
+
+    def close(self) -> None:
+        """Does nothing."""
+
+
+def gap_line(lines: int, first: int, last: int, **members: str) -> str:
+    """Returns the line of a log that says how many lines it lacks, and the tickets of the first and
+    the last of them. With the member `file` it is all of a file that was removed."""
+    return COMPACT.encode({"gap": {"lines": lines, "from": first, "until": last, **members}})
+
+
+def _bytes_of(*lines: str) -> bytes:
+    return "".join(f"{line}\n" for line in lines).encode()
+
+
+def _mend(file: GrowingFile) -> None:
     """Ends the last line of a file if it lacks its end and is a JSON text, and leaves it out if it
     is none."""
-    size = os.fstat(file).st_size
-    start, tail = size, b""
+    start, tail = file.size, b""
     while start and b"\n" not in tail:
         step = min(start, 65_536)
         start -= step
-        tail = os.pread(file, step, start) + tail
+        tail = file.read(start, step) + tail
     torn = tail[tail.rfind(b"\n") + 1:]
     if not torn:
         return
     try:
         json.loads(torn)
     except ValueError:
-        os.ftruncate(file, size - len(torn))
+        file.cut(file.size - len(torn))
     else:
-        _write_all(system, file, b"\n")
+        file.append(b"\n")
 
 
 def _lines_from(path: Path, line: bytes) -> list[bytes]:
     """Returns the last occurrence of a line in a file and all lines after it, none if the file does
-    not have it."""
+    not have it. It is read in pieces from its end, so that other threads run meanwhile."""
+    wanted, overlap = b"\n" + line + b"\n", b""
     with open(path, "rb") as file:
-        if not os.fstat(file.fileno()).st_size:
-            return []
-        with mmap.mmap(file.fileno(), 0, access=mmap.ACCESS_READ) as text:
-            at = text.rfind(b"\n" + line + b"\n")
-            return text[at + 1:].split(b"\n") if at >= 0 else []
+        end = os.fstat(file.fileno()).st_size
+        while end:
+            start = max(0, end - PIECE)
+            piece = os.pread(file.fileno(), end - start, start) + overlap
+            at = piece.rfind(wanted)
+            if at >= 0:
+                file.seek(start + at + 1)
+                return file.read().split(b"\n")
+            overlap, end = piece[: len(wanted)], start
+    return []
+
+
+def first_ticket(path: Path) -> int:
+    """Returns the ticket of the first call of a file, 0 if it has none."""
+    return next((int(call["ticket"]) for call in calls_of(path)), 0)
+
+
+def last_ticket(path: Path) -> int:
+    """Returns the ticket of the last call of a file, 0 if it has none."""
+    with open(path, "rb") as file:
+        file.seek(max(0, os.fstat(file.fileno()).st_size - PIECE))
+        found = TICKET.findall(file.read())
+    return int(found[-1]) if found else max((call["ticket"] for call in calls_of(path)), default=0)
 
 
 def files_of(folder: str | os.PathLike[str]) -> list[Path]:
@@ -186,17 +294,21 @@ def files_of(folder: str | os.PathLike[str]) -> list[Path]:
     return sorted(Path(folder).glob(f"*{ENDING}"))
 
 
-def lay_out(folder: str | os.PathLike[str], into: str | os.PathLike[str]) -> list[Path]:
+def lay_out(
+    folder: str | os.PathLike[str], into: str | os.PathLike[str], above: int = 0, below: int = 1 << 64
+) -> list[Path]:
     """Copies the logs of a job into another folder so that `hourstable audit` takes them together,
     and returns them.
 
     Each file keeps its name, and each line its number. Only the first file keeps its job line. A
     line that another one repeats exactly is blank: two control planes may both append the line of a
-    call that the store has. Raises ValueError if two job lines differ.
+    call that the store has. So are the lines of gaps, and calls whose tickets are not from `above`
+    on and below `below`. Raises ValueError if two job lines differ.
     """
     made = []
     job: bytes | None = None
     known: set[bytes] = set()
+    cuts = above > 0 or below < 1 << 64
     Path(into).mkdir(parents=True, exist_ok=True)
     for path in files_of(folder):
         copy = Path(into) / path.name
@@ -209,18 +321,32 @@ def lay_out(folder: str | os.PathLike[str], into: str | os.PathLike[str]) -> lis
                     job = line.strip()
                     continue
                 mark = hashlib.blake2b(line.strip(), digest_size=16).digest()
-                out.write(b"\n" if mark in known else line)
+                is_left = mark in known or line.startswith(GAP)
+                is_left = is_left or cuts and not above <= ticket_of(line, above) < below
+                out.write(b"\n" if is_left else line)
                 known.add(mark)
         made.append(copy)
     return made
 
 
+def ticket_of(line: bytes, default: int) -> int:
+    """Returns the ticket of the line of a call, the default if it is none, as a blank or a torn line."""
+    found = TICKET.match(b"\n" + line[:64])
+    if found is not None:
+        return int(found[1])
+    try:
+        ticket = json.loads(line)["ticket"]
+    except (ValueError, KeyError, TypeError):
+        return default
+    return ticket if isinstance(ticket, int) else default
+
+
 def calls_of(path: Path) -> Iterator[dict[str, Any]]:
-    """Returns the calls of a file in the order of its lines, without the job line and a torn last
+    """Returns the calls of a file in the order of its lines, without the job line, lines of gaps and a torn last
     line."""
     with open(path, "rb") as lines:
         for line in lines:
-            if not line.strip():
+            if not line.strip() or line.startswith(GAP):
                 continue
             try:
                 call = json.loads(line)
@@ -228,7 +354,7 @@ def calls_of(path: Path) -> Iterator[dict[str, Any]]:
                 if line.endswith(b"\n"):
                     raise
                 return
-            if "job" not in call:
+            if "job" not in call and "gap" not in call:
                 yield call
 
 

@@ -52,9 +52,22 @@ class Metrics(Counters):
         self.unauthorized = Counter(
             "hourstable_unauthorized", "Requests without a right secret.", registry=registry
         )
+        self.job_failures = Counter(
+            "hourstable_job_failures", "Times that a job failed: its log, what is stored of it, or a call.",
+            ["job"], registry=registry,
+        )
+        self.internal_errors = Counter(
+            "hourstable_internal_errors", "Exceptions that nobody expected, by what failed.",
+            ["where"], registry=registry,
+        )
+        self._tickets = Counter(
+            "hourstable_tickets_left_out", "Tickets and real times beyond the year 6429, which nothing follows.",
+            registry=registry,
+        )
         self.connections = Gauge(
             "hourstable_open_connections", "Open connections.", registry=registry
         )
+        self._left_out = 0
         self._gauges = Gauges(registry)
         build = Gauge(
             "hourstable_build_info", "1, with the version of the library.", ["version"],
@@ -79,8 +92,22 @@ class Metrics(Counters):
         if failed:
             self.store_failures.labels(what).inc()
 
-    def text(self, jobs: Iterable["Shown"]) -> bytes:
-        """Returns the text of all metrics."""
+    def turned(self, limit: str) -> None:
+        """Counts a connection that was turned away."""
+        self.limited.labels(limit).inc()
+
+    def job_failed(self, job: str) -> None:
+        """Counts a failure of a job."""
+        self.job_failures.labels(job).inc()
+
+    def internal_error(self, where: str) -> None:
+        """Counts an exception that nobody expected, as a supervisor caught it."""
+        self.internal_errors.labels(where).inc()
+
+    def text(self, jobs: Iterable["Shown"], left_out: int = 0) -> bytes:
+        """Returns the text of all metrics. `left_out` is how many tickets the process has left out."""
+        self._tickets.inc(max(0, left_out - self._left_out))
+        self._left_out = left_out
         for shown in jobs:
             self._gauges.show(shown)
         made: bytes = generate_latest(self.registry)
@@ -107,6 +134,7 @@ class Gauges:
         "tasks_draining": "Tasks that are being drained.",
         "rows": "Open rows of the table.",
         "grants_made": "Grants that count as made, of the numbers of the policy.",
+        "job_failed": "1 if the job does not work on this control plane, else 0: /overview says why.",
         "numbers_left_ratio": "The part of the numbers of grants that is left.",
     }
 

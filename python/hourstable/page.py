@@ -12,6 +12,7 @@ from typing import TYPE_CHECKING, Any
 
 from aiohttp import web
 
+from hourstable.failures import Failure
 from hourstable.jobs import Job
 from hourstable.keys import proposed_of
 from hourstable.library import KIND_WORDS
@@ -51,13 +52,22 @@ def _file(name: str, kind: str) -> Callable[[web.Request], Awaitable[web.Respons
     return answer
 
 
-def overview_of(followed: "Followed", now: float) -> dict[str, Any]:
-    """Returns the line of a job in a list of all."""
+def overview_of(followed: "Followed", now: float, failed: Failure | None) -> dict[str, Any]:
+    """Returns the line of a job in a list of all. `failed` says why it does not work, and is null if it does."""
     job = followed.job
     return {
         "job": job.name, "holder": job.is_held, "committed": job.view.committed,
         "proposed": job.view.proposed or None, "alive": len(followed.alive(now)),
         "draining": len(followed.draining()), "grace": job.grace_left(),
+        "failed": failed.value(now) if failed is not None else None,
+    }
+
+
+def overview_of_failed(job: str, now: float, failed: Failure | None) -> dict[str, Any]:
+    """Returns the line of a job of which the plane could read nothing."""
+    return {
+        "job": job, "holder": False, "committed": 0, "proposed": None, "alive": 0, "draining": 0, "grace": 0,
+        "failed": failed.value(now) if failed is not None else None,
     }
 
 

@@ -5,12 +5,13 @@ whether what it gains is worth the moves.
 """
 
 import json
+from collections.abc import Iterable
 from dataclasses import dataclass
 from typing import Any
 
 from hourstable import library
 from hourstable.library import PlanPolicy
-from hourstable.loads import KEYS, MOST_LOAD
+from hourstable.loads import KEYS, MOST_LOAD, Piece
 
 Slices = list[tuple[int, list[int]]]
 
@@ -66,21 +67,35 @@ def widths_of(slices: Slices) -> list[int]:
     return [end - start for (start, _), end in zip(slices, ends)]
 
 
-def loads_over(slices: Slices, reported: list[tuple[int, int, int]]) -> list[int]:
+def loads_over(slices: Slices, reported: Iterable[Piece]) -> list[int]:
     """Returns the load of each slice. The load of a reported range is spread evenly over its keys.
     A sixteenth of all load is spread over all keys, so that none counts as free; if no load is
     reported, a slice weighs as many keys as it has."""
-    widths = widths_of(slices)
-    loads = [0] * len(slices)
-    for low, high, load in reported:
-        for at, (start, _) in enumerate(slices):
-            shared = min(high, start + widths[at]) - max(low, start)
-            if shared > 0:
-                loads[at] += load * shared // (high - low)
+    loads = spread_over(slices, reported)
     spread = sum(loads) // 16 if any(loads) else 1 << 20
     return [
-        min(load + spread * width // KEYS, MOST_LOAD) for load, width in zip(loads, widths)
+        min(load + spread * width // KEYS, MOST_LOAD) for load, width in zip(loads, widths_of(slices))
     ]
+
+
+def spread_over(slices: Slices, pieces: Iterable[Piece]) -> list[int]:
+    """Returns for each slice its share of the pieces, of each piece rounded down. It looks at each piece and each
+    slice once if no pieces overlap, as those that `Loads` has joined."""
+    starts = [start for start, _ in slices]
+    ends = [*starts[1:], KEYS]
+    loads, at = [0] * len(slices), 0
+    for low, high, load in sorted(pieces):
+        while ends[at] <= low:
+            at += 1
+        if high <= ends[at]:
+            loads[at] += load
+            continue
+        over, width = at, high - low
+        while over < len(starts) and starts[over] < high:
+            shared = min(high, ends[over]) - max(low, starts[over])
+            loads[over] += load * shared // width
+            over += 1
+    return loads
 
 
 def task_loads(slices: Slices, loads: list[int], tasks: list[int]) -> dict[int, int]:
@@ -97,10 +112,11 @@ class Planner:
 
     def __init__(self, job: str, rules: Hysteresis) -> None:
         self._job, self._rules = job, rules
+        self._known: tuple[bytes, Slices, set[int]] = b"", [], set()  # the assignment that was read last
 
     def wanted(
         self, assignment: bytes | None, policy: dict[str, Any], tasks: list[int],
-        reported: list[tuple[int, int, int]], since_commit: float,
+        reported: list[Piece], since_commit: float,
     ) -> bytes | None:
         """Returns the message of the assignment that is wanted, None if the committed one is good
         enough. `tasks` are those that should own keys, in rising order."""
@@ -109,8 +125,7 @@ class Planner:
             return None
         if assignment is None:
             return first_assignment(self._job, tasks, low, self._rules)
-        slices = slices_in(assignment)
-        owners = {owner for _, some in slices for owner in some}
+        slices, owners = self._read(assignment)
         must = not owners <= set(tasks)
         may = bool(set(tasks) - owners) and since_commit >= self._rules.settle
         loads = loads_over(slices, reported)
@@ -121,6 +136,13 @@ class Planner:
         if must or (may and self._gives_to_all(plan, tasks, owners)):
             return plan
         return plan if self._is_worth(slices, loads, plan, tasks) else None
+
+    def _read(self, assignment: bytes) -> tuple[Slices, set[int]]:
+        """Returns the slices of an assignment and all of their owners."""
+        if self._known[0] != assignment:
+            slices = slices_in(assignment)
+            self._known = assignment, slices, {owner for _, some in slices for owner in some}
+        return self._known[1], self._known[2]
 
     def _plan(
         self, assignment: bytes, loads: list[int], tasks: list[int], low: int, high: int
@@ -153,20 +175,5 @@ class Planner:
             (start, start + width, load) for (start, _), width, load in zip(slices, widths, loads)
         ]
         before = max(task_loads(slices, loads, tasks).values())
-        after = max(task_loads(planned, _shared(planned, spread), tasks).values())
+        after = max(task_loads(planned, spread_over(planned, spread), tasks).values())
         return before - after >= self._rules.gain * sum(loads) / len(tasks)
-
-
-def _shared(slices: Slices, spread: list[tuple[int, int, int]]) -> list[int]:
-    """Returns the load of each slice, from ranges that cover all keys, in their order."""
-    ends = [start for start, _ in slices[1:]] + [KEYS]
-    made, at = [0] * len(slices), 0
-    for low, high, load in spread:
-        while ends[at] <= low:
-            at += 1
-        over = at
-        while over < len(slices) and slices[over][0] < high:
-            part = min(high, ends[over]) - max(low, slices[over][0])
-            made[over] += load * part // (high - low)
-            over += 1
-    return made

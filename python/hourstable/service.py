@@ -6,7 +6,6 @@
 It is what `hourstable-service control` runs. Several may run in one process, and each may be stopped and made anew.
 """
 
-import asyncio
 import ssl
 from collections.abc import Awaitable, Callable
 from contextlib import AsyncExitStack
@@ -15,12 +14,15 @@ from pathlib import Path
 
 from hourstable.assigner import AssignerOfJobs
 from hourstable.clock import local_clock as local_clock_of
-from hourstable.control import Limits, Plane
+from hourstable.control import Plane
 from hourstable.desk import LocalDesk
 from hourstable.jobs import Settings
+from hourstable.limits import Limits
 from hourstable.plans import Hysteresis
+from hourstable.record import Record
+from hourstable.state import kept_in, state_folder
 from hourstable.store import DEADLINE, Store, open_store
-from hourstable.system import SYSTEM, System
+from hourstable.system import SYSTEM, System, make_folder
 from hourstable.task import FIRST_PROCESS as PROCESSES
 from hourstable.tickets import Tickets
 
@@ -29,7 +31,7 @@ from hourstable.tickets import Tickets
 class Options:
     """What a control plane is started with. `docs/OPERATIONS.md` says what each word of the command does."""
 
-    store: str  # the URL
+    store: str = field(repr=False)  # the URL, which may have a password
     logs: Path
     host: str = "127.0.0.1"
     port: int = 0  # 0: any
@@ -37,12 +39,14 @@ class Options:
     shared: bool | None = None  # whether other planes use the store; None: if they may
     standby: float = 2.0  # seconds
     assigner: int = 1  # its number, 0 for none
-    secrets: list[str] = field(default_factory=list)
+    secrets: list[str] = field(default_factory=list, repr=False)
     tls: ssl.SSLContext | None = None
     limits: Limits = field(default_factory=Limits)
     rules: Hysteresis = field(default_factory=Hysteresis)
     poll: float = 1.0  # seconds between two looks at what other planes wrote
     store_deadline: float = DEADLINE  # seconds in which a call of the store returns or fails
+    keep_logs: int | None = None  # days for which its logs are kept; None: for ever
+    state: Path | None = None  # the folder of its tickets; None: $STATE_DIRECTORY, or the one beside `logs`
 
 
 class ControlPlane:
@@ -84,18 +88,22 @@ class ControlPlane:
         process = process_number(chosen.process)
         store = await self._opens(chosen.store, chosen.store_deadline, system)
         ending.push_async_callback(store.close)
-        chosen.logs.mkdir(parents=True, exist_ok=True)
-        tickets = Tickets(process, chosen.logs / f"control-{process}.ticket", system=system)
+        make_folder(chosen.logs)
+        state = state_folder(chosen.state, chosen.logs)
+        tickets = Tickets(process, kept_in(state, f"control-{process}.ticket", chosen.logs), system=system)
         ending.callback(tickets.close)
         local = self._local_clock or local_clock_of(system=system)
         shared = store.several if chosen.shared is None else chosen.shared
-        settings = Settings(chosen.logs, process, shared, chosen.standby, local=local, system=system)
+        settings = Settings(
+            chosen.logs, process, shared, chosen.standby, local=local, system=system, keep_logs=chosen.keep_logs
+        )
         plane = self.plane = Plane(store, settings, tickets, chosen.limits, chosen.secrets)
+        plane.readiness.folders = [chosen.logs, state]
+        plane.record = Record(state / f"record-{process}.ndjson", system)
         ending.push_async_callback(plane.stop)
         port = await plane.start(chosen.host, chosen.port, chosen.tls, chosen.poll)
         if chosen.assigner:
-            jobs = AssignerOfJobs(chosen.assigner, LocalDesk(plane), local, chosen.rules)
-            ending.push_async_callback(_ended, asyncio.create_task(jobs.run()))
+            plane.supervisor.watch("assigner", lambda: _assigner(chosen, plane, local, system).run())
         return port
 
     async def stop(self) -> None:
@@ -111,9 +119,10 @@ class ControlPlane:
         await self.stop()
 
 
-async def _ended(running: "asyncio.Task[None]") -> None:
-    running.cancel()
-    await asyncio.gather(running, return_exceptions=True)
+def _assigner(chosen: Options, plane: Plane, local: Callable[[], int], system: System) -> AssignerOfJobs:
+    given = LocalDesk(plane), local, chosen.rules, plane.metrics.internal_error, system
+    made = plane.readiness.assigner = AssignerOfJobs(chosen.assigner, *given)
+    return made
 
 
 def process_number(number: int) -> int:

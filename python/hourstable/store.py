@@ -35,6 +35,10 @@ class StoreFailed(Exception):
     done is not known: it may even be done later."""
 
 
+class Damaged(StoreFailed):
+    """What the store has of a job cannot be read. Other jobs are not concerned."""
+
+
 class NoSuchJob(Exception):
     """The store has no row of the job."""
 
@@ -115,8 +119,8 @@ class Store(ABC):
         """Closes all connections. Nothing is asked later."""
 
     async def lives(self, job: str) -> dict[int, Life]:
-        """Returns the lives of the tasks that have had one. Raises NoSuchJob."""
-        return _lives_of((await self.read_lives(job))[0])
+        """Returns the lives of the tasks that have had one. Raises NoSuchJob and Damaged."""
+        return _lives_of(job, (await self.read_lives(job))[0])
 
     async def raise_life(self, job: str, task: int) -> int:
         """Returns a life of a task that is given out once: one more than the last. Raises NoSuchJob
@@ -140,7 +144,7 @@ class Store(ABC):
         async with self._changing.setdefault(job, asyncio.Lock()):
             for _ in range(TRIES):
                 text, compared = await self.read_lives(job)
-                lives = _lives_of(text)
+                lives = _lives_of(job, text)
                 life = lives[task] = change(lives.get(task, Life(0, 0)))
                 written = json.dumps({str(number): list(lives[number]) for number in sorted(lives)})
                 if written == text or await self.swap_lives(job, compared, written):
@@ -157,8 +161,12 @@ class Store(ABC):
             raise StoreFailed(f"{self.name}: no answer in {self.deadline} s") from error
 
 
-def _lives_of(text: str) -> dict[int, Life]:
-    return {int(task): Life(*life) for task, life in json.loads(text).items()}
+def _lives_of(job: str, text: str) -> dict[int, Life]:
+    try:
+        lives = {int(task): Life(*map(int, life)) for task, life in json.loads(text).items()}
+    except (ValueError, TypeError, AttributeError) as error:
+        raise Damaged(f"the lives that are stored of {job} cannot be read: {error}") from error
+    return lives
 
 
 def stored_in(rows: list[Any]) -> Stored | None:
@@ -183,6 +191,25 @@ def after_swap(job: str, version: int, count: int) -> int:
     return version + 1
 
 
+def password_in(url: str) -> str:
+    """Returns the password in the URL of a store as it is written there, nothing if it has none. Raises ValueError if
+    it is not encoded, so that a part of it would count as something else."""
+    parts = urllib.parse.urlsplit(url)
+    name, at, _ = parts.netloc.rpartition("@")
+    beside = f"{parts.path}{parts.query}{parts.fragment}"
+    if "@" in name or (not at and "@" in beside and parts.netloc):
+        raise ValueError("the URL of the store has an @ that is not written as %40, perhaps in a password")
+    query = urllib.parse.parse_qsl(parts.query, keep_blank_values=True) if parts.scheme != "sqlite" else []
+    return name.partition(":")[2] or next((value for key, value in query if key == "password"), "")
+
+
+def without(password: str, text: str) -> str:
+    """Returns a text in which a password stands neither as it is written in a URL nor as it is meant."""
+    for word in {password, urllib.parse.unquote(password)} - {""}:
+        text = text.replace(word, "***")
+    return text
+
+
 def store_of(url: str, deadline: float = DEADLINE, system: System = SYSTEM) -> Store:
     """Returns the store of a URL, which is not yet open: sqlite:FILE, postgresql://.. as libpq reads
     it, etcd://HOST:PORT,.. of one or several members, or etcds://HOST:PORT,.. with
@@ -193,6 +220,7 @@ def store_of(url: str, deadline: float = DEADLINE, system: System = SYSTEM) -> S
         from hourstable.store_sqlite import SqliteStore
 
         return SqliteStore(rest, deadline, system)
+    password = password_in(url)
     if kind in ("postgresql", "postgres"):
         try:
             from hourstable.store_postgresql import PostgresqlStore
@@ -209,7 +237,7 @@ def store_of(url: str, deadline: float = DEADLINE, system: System = SYSTEM) -> S
         with suppress(ValueError):
             return etcd_of(urllib.parse.urlsplit(url), deadline, system)
     raise ValueError(
-        f"{url!r} is no store: sqlite:FILE, postgresql://.., etcd://HOST:PORT or etcds://HOST:PORT"
+        f"{without(password, url)!r} is no store: sqlite:FILE, postgresql://.., etcd://HOST:PORT or etcds://HOST:PORT"
     )
 
 

@@ -10,7 +10,7 @@ from typing import Any
 
 import aiohttp
 
-from hourstable.store import DEADLINE, Conflict, NoSuchJob, Store, Stored, StoreFailed
+from hourstable.store import DEADLINE, Conflict, Damaged, NoSuchJob, Store, Stored, StoreFailed
 from hourstable.system import SYSTEM, System
 from hourstable.waiting import within
 
@@ -112,10 +112,15 @@ class EtcdStore(Store):
         found = [one["response_range"].get("kvs") for one in told["responses"]]
         if not found[0]:
             return None
+        if not found[1]:
+            raise Damaged(f"etcd: {job} has no key {self.POLICY}{job}")
         (table,), (policy,) = found
-        row = json.loads(_text(table["value"]))
-        version = int(table["mod_revision"])
-        return Stored(version, _text(policy["value"]), row["kept"].encode(), row["line"])
+        try:
+            row = json.loads(_text(table["value"]))
+            kept, line = row["kept"].encode(), row["line"]
+        except (ValueError, KeyError, TypeError, AttributeError) as error:
+            raise Damaged(f"etcd: the value of {self.TABLE}{job} cannot be read: {error!r}") from error
+        return Stored(int(table["mod_revision"]), _text(policy["value"]), kept, line)
 
     async def version(self, job: str) -> int | None:
         body = {"key": _base64(self.TABLE + job), "keys_only": True}

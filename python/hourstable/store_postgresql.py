@@ -11,7 +11,7 @@ from psycopg.abc import RV, PQGen
 from psycopg_pool import AsyncConnectionPool, PoolClosed, PoolTimeout
 
 from hourstable.store import (
-    DEADLINE, Conflict, Store, Stored, StoreFailed, after_swap, lives_in, stored_in,
+    DEADLINE, Conflict, Store, Stored, StoreFailed, after_swap, lives_in, password_in, stored_in, without,
 )
 from hourstable.system import SYSTEM, System
 
@@ -118,7 +118,7 @@ class PostgresqlStore(Store):
         self, url: str, deadline: float = DEADLINE, system: System = SYSTEM
     ) -> None:
         super().__init__(deadline, system)
-        self._url = url
+        self._url, self._password = url, password_in(url)
         self._settings: dict[str, Any] = {
             "autocommit": True, "connect_timeout": max(1, round(deadline)),
             "options": f"-c synchronous_commit=on -c statement_timeout={round(deadline * 1000)}",
@@ -144,7 +144,11 @@ class PostgresqlStore(Store):
                     " line text, lives text NOT NULL)"
                 )
         except psycopg.Error as error:
-            raise StoreFailed(f"PostgreSQL: {error}") from error
+            raise self._failed(error) from None
+
+    def _failed(self, error: Exception) -> StoreFailed:
+        """Returns an error of the server, or of libpq, which may tell what stands in the URL."""
+        return StoreFailed(without(self._password, f"PostgreSQL: {error}"))
 
     async def _try(self, statement: str, values: tuple[object, ...]) -> Rows:
         while not self._is_closed:
@@ -155,7 +159,7 @@ class PostgresqlStore(Store):
             except psycopg.IntegrityError as error:
                 raise Conflict(str(error)) from error
             except psycopg.Error as error:
-                raise StoreFailed(f"PostgreSQL: {error}") from error
+                raise self._failed(error) from None
         raise StoreFailed("PostgreSQL: the store is closed")
 
     async def _executed(self, statement: str, values: tuple[object, ...]) -> Rows:

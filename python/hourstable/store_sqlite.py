@@ -1,6 +1,7 @@
 """The store of jobs in a file of SQLite."""
 
 import asyncio
+import os
 import sqlite3
 from collections import deque
 from collections.abc import Callable
@@ -39,11 +40,13 @@ class Connected:
         loop = asyncio.get_running_loop()
         try:
             return await loop.run_in_executor(self._thread, lambda: call(self._opened()))
-        except sqlite3.Error as error:
+        except (sqlite3.Error, OSError) as error:
             raise StoreFailed(f"SQLite: {error}") from error
 
     def _opened(self) -> sqlite3.Connection:
         if self._connection is None:
+            # It is for the user of the process alone, and so are the files that SQLite makes beside it.
+            os.close(os.open(self._path, os.O_RDWR | os.O_CREAT | os.O_CLOEXEC, 0o600))
             self._connection = sqlite3.connect(
                 self._path, timeout=self._patience, isolation_level=None, check_same_thread=False
             )

@@ -4,21 +4,52 @@ Planes, tasks, routers, logs and tickets take a `System`, by default the one tha
 passes one of its own, whose clocks run wrong, whose chance is seeded or whose disk is full.
 """
 
+import ctypes
 import mmap
 import os
 import random
 import time
+from collections.abc import Callable
 from pathlib import Path
 
+LIBC = ctypes.CDLL(None, use_errno=True)
+KEEP_SIZE = 1  # of fallocate(2): what is allocated beyond the end of a file does not make it longer
 BOOT_ID = Path("/proc/sys/kernel/random/boot_id")
+
+
+def make_folder(path: str | os.PathLike[str]) -> Path:
+    """Makes a folder and those above it, for the user of the process alone, where they are not there. Returns it.
+    Raises OSError."""
+    made = Path(path)
+    missing = [it for it in (made, *made.parents) if not it.is_dir()]
+    for folder in reversed(missing):
+        folder.mkdir(mode=0o700, exist_ok=True)
+    return made
+
+
+def _steady() -> Callable[[], int]:
+    """Returns the clock of `steady_ticks`, or CLOCK_BOOTTIME alone where the system lacks one of its clocks."""
+    read, boottime = time.clock_gettime_ns, time.CLOCK_BOOTTIME
+    try:
+        monotonic, raw = time.CLOCK_MONOTONIC, time.CLOCK_MONOTONIC_RAW
+        read(raw)
+    except (AttributeError, OSError):
+        return lambda: read(boottime) // 1_000_000
+    # In this order, whatever happens in between, the value is one of the time from the first reading to the last.
+    return lambda: (read(boottime) - read(monotonic) + read(raw)) // 1_000_000
+
+
+steady_ticks = _steady()
+"""Returns CLOCK_MONOTONIC_RAW and the time for which the machine was suspended, in ticks of a millisecond. No time
+service slews the first, and CLOCK_BOOTTIME is ahead of CLOCK_MONOTONIC by the second."""
 
 
 class System:
     """The operating system of this process."""
 
     def ticks(self) -> int:
-        """Returns CLOCK_BOOTTIME in ticks. It counts the time for which the machine is suspended."""
-        return time.clock_gettime_ns(time.CLOCK_BOOTTIME) // 1_000_000
+        """Returns the local clock, `steady_ticks`. It counts while the machine is suspended."""
+        return steady_ticks()
 
     def monotonic(self) -> float:
         """Returns seconds that never fall, from any start."""
@@ -42,6 +73,13 @@ class System:
     def write(self, file: int, data: bytes) -> int:
         """Writes bytes to an open file, and returns how many it took. Raises OSError."""
         return os.write(file, data)
+
+    def allocate(self, file: int, start: int, length: int) -> None:
+        """Allocates space for bytes of an open file, whose length stays. Raises OSError, with EOPNOTSUPP if its
+        filesystem does not do that."""
+        if LIBC.fallocate(file, KEEP_SIZE, ctypes.c_int64(start), ctypes.c_int64(length)) != 0:
+            code = ctypes.get_errno()
+            raise OSError(code, os.strerror(code))
 
     def close(self, file: int) -> None:
         """Closes an open file, which ends its lock."""

@@ -11,27 +11,38 @@ message is on its way.
 """
 
 import asyncio
-import json
 import logging
 import os
 import ssl
+import time
 from collections import Counter as Counts
-from collections.abc import AsyncIterator, Awaitable, Callable, Coroutine, Mapping, Sequence
+from collections.abc import AsyncIterator, Callable, Mapping, Sequence
 from contextlib import asynccontextmanager
+from functools import partial
 from typing import Any, NamedTuple
 
-from prometheus_client import CollectorRegistry, Counter, Gauge, generate_latest
-
-from .calls import TIMEOUT, WAIT, Answer, Backoff, Control, Rejected, Unreachable
+from . import replies
+from .caller_metrics import Metrics
+from .calls import TIMEOUT, Control, Rejected, Troubles, Unreachable
 from .clock import local_clock as local_clock_of
+from .context import about
+from .kept_log import KeptLog
 from .leases import KINDS, ClockBehind, Leases, policy_of
-from .library import KeyHandle, Phase, Policy, Refused, TaskClock, slice_key
-from .logs import Log, folder_of, job_line
+from .library import KeyHandle, Policy, Refused, TaskClock, ended_note, slice_key
+from .logs import Log, NoLog, folder_of, job_line
+from .moves import Moves, OnGain, OnLose
+from .phases import Phases
 from .ranges import KEYS, Ranges, holds, minus
+from .supervisor import Supervisor
 from .system import SYSTEM, System
 from .tickets import Tickets, follow
 from .transport import Transport
-from .waiting import pause, within
+from .waiting import Backoff, pause, within
+
+__all__ = [
+    "ClockBehind", "ClockBroken", "Denied", "Drift", "Hold", "Lease", "LeaseLost", "Metrics", "OnGain", "OnLose",
+    "Rejected", "Renewed", "Task",
+]
 
 GRAIN = 2
 FIRST_PROCESS = 64  # of tasks: task 1 draws the tickets of process 64
@@ -39,15 +50,13 @@ LAST_CALLS = 64  # a slicelet that accepts no more calls than these is replaced
 LOAD_BITS = 10  # loads are reported for 1,024 parts of the slice keys
 JITTER = 0.1  # of half a lease, by which a renewal comes earlier or later
 
-OnGain = Callable[[Ranges], Awaitable[None] | None]
-OnLose = Callable[[Ranges, int], Awaitable[None] | None]
 logger = logging.getLogger("hourstable.task")
 
 
 class Drift(NamedTuple):
     """While a task's local clock gains `per` ticks, the table's gains at most `per` + `extra`."""
 
-    extra: int = 201
+    extra: int = 1001
     per: int = 1_000_000
 
 
@@ -79,9 +88,11 @@ class Renewed(NamedTuple):
 class Lease:
     """The right to a key, from the entry of a block of `Task.serving` on."""
 
-    def __init__(self, task: "Task", key: str, slice_key: int, generation: int) -> None:
+    def __init__(
+        self, task: "Task", key: str, slice_key: int, generation: int, is_logged: bool = True
+    ) -> None:
         self.key, self.slice_key, self.generation = key, slice_key, generation
-        self._hold = task._hold(key, slice_key)
+        self._hold = task._hold(key, slice_key, is_logged)
 
     def check(self) -> None:
         """Raises LeaseLost unless the task has held the key since the entry, and still does. Call
@@ -93,69 +104,32 @@ class Lease:
 class Hold:
     """A handle on a key, for work that takes a while."""
 
-    def __init__(self, task: "Task", key: str, leases: Leases, handle: KeyHandle) -> None:
+    def __init__(
+        self, task: "Task", key: str, leases: Leases, handle: KeyHandle, is_logged: bool = True
+    ) -> None:
         self.key = key
         self._task, self._leases, self._handle = task, leases, handle
+        self._is_logged = is_logged
 
     def continuous(self) -> bool:
         """Whether the task has held the key without a break since it took the handle, and may
-        serve it now. The call is logged as a `check`."""
+        serve it now. The call is logged as a `check`, if the task logs the block of the handle."""
         if self._task._leases is not self._leases:
             return False  # another life, whose slicelet did not give the handle
         try:
-            self._leases.check(self._handle)
+            self._leases.check(self._handle, self._is_logged)
         except (Refused, ClockBehind):
             return False
         return True
-
-
-class Metrics:
-    """The counters and gauges of a task, for Prometheus."""
-
-    def __init__(self, job: str, task: int) -> None:
-        self.registry = CollectorRegistry()
-        self._values = (job, str(task))
-        self.denials: Counts[str] = Counts()  # by the ground
-        self.requests = self._counter("requests", "Questions for a key.")
-        self.lost = self._counter("lease_lost", "Answers after the end of their lease.")
-        self.behind = self._counter("clock_behind", "Times that the clock stopped the task.")
-        self.lives = self._counter("lives", "Lives that were begun.")
-        self.unreachable = self._counter("control_unreachable", "Calls that no plane answered.")
-        self.left = self._gauge("calls_left", "Calls that the slicelet still accepts.")
-        self.keys = self._gauge("served_share", "The part of all slice keys that it may serve.")
-        self._denied = Counter(
-            "hourstable_denied", "Questions that were denied.", ["job", "task", "ground"],
-            registry=self.registry,
-        )
-        self._heard = Counter(
-            "hourstable_heard", "Leases that were heard.", ["job", "task", "kind"],
-            registry=self.registry,
-        )
-
-    def denied(self, ground: str) -> None:
-        self.denials[ground] += 1
-        self._denied.labels(*self._values, ground).inc()
-
-    def heard(self, kind: str) -> None:
-        self._heard.labels(*self._values, kind).inc()
-
-    def text(self) -> bytes:
-        return generate_latest(self.registry)
-
-    def _counter(self, name: str, words: str) -> Counter:
-        made = Counter(f"hourstable_{name}", words, ["job", "task"], registry=self.registry)
-        return made.labels(*self._values)
-
-    def _gauge(self, name: str, words: str) -> Gauge:
-        made = Gauge(f"hourstable_{name}", words, ["job", "task"], registry=self.registry)
-        return made.labels(*self._values)
 
 
 class Task:
     """A task of a job. It runs from `start`, or from the entry of an `async with`, to `stop`.
 
     `control` is the URL of a control plane, or of several. `logs` is the folder of logs, which has
-    one for each job; the tickets of the task are kept there too. `policy` creates the job if it is
+    one for each job; the tickets of the task are kept there too. With None the task keeps neither.
+    `sample` is the part of blocks that are logged, each with all of its calls or with none; other
+    calls are always logged. `keep_logs` is for how many days its files are kept. `policy` creates the job if it is
     not there, and is compared if it is. `oldest` is for how many ticks the task goes on without an
     answer of the table, by default nine tenths of a guard lease. `timeout` is for how many seconds
     it waits for an answer, at most a fifth of a guard lease.
@@ -164,7 +138,8 @@ class Task:
     `on_lose(ranges, deadline)` of those that it gives up: it is awaited, for at most `patience`
     seconds, before the lease is released. Then blocks of `serving` that are open on these keys
     have as long to end, and new ones are denied as `moving`. `deadline` is the reading of the
-    task's clock at which the lease ends anyway.
+    task's clock at which the lease ends anyway. What a callback raises is logged and counted, and
+    changes nothing else.
 
     `transport` brings its requests to planes in place of HTTP by `tls`. `system` has its clocks but
     for `local_clock`, its chance and its files.
@@ -176,7 +151,9 @@ class Task:
         job: str,
         task: int,
         *,
-        logs: str | os.PathLike[str],
+        logs: str | os.PathLike[str] | None,
+        sample: float = 1.0,
+        keep_logs: int | None = None,
         policy: Mapping[str, Any] | None = None,
         on_gain: OnGain | None = None,
         on_lose: OnLose | None = None,
@@ -197,78 +174,121 @@ class Task:
         self.metrics = Metrics(job, task)
         self.clock_behind_total = 0  # how often its clock stopped the task
         self.renewed = Renewed(0, None)
-        self._system = system
-        self._folder = folder_of(logs, job)
-        self._folder.mkdir(parents=True, exist_ok=True)
+        self._system, self._random = system, system.random()
+        self._folder = None if logs is None else folder_of(logs, job)
+        self._sample, self._keep_logs = sample, keep_logs
         self._tickets = tickets or self._tickets_of(process)
         self._local_clock = local_clock or local_clock_of(system=system)
+        name = f"task {task}"
+        self._supervisor = Supervisor(
+            name, logger, self.metrics.internal_error, self._random.random, most=TIMEOUT
+        )
         self._control = Control(
             control, job, self._tickets, self._local_clock, secret=secret, tls=tls, timeout=timeout,
-            transport=transport,
+            transport=transport, system=system,
+            troubles=Troubles(name, logger, self.metrics.wrong_answer, system.monotonic),
         )
         self._given_policy = policy
-        self._on_gain, self._on_lose = on_gain, on_lose
+        self._moves = Moves(self._supervisor, on_gain, on_lose)
         self._drift, self._oldest = drift, oldest
         self._patience, self._report_every = patience, report
-        self._random = system.random()
         self._policy: Policy | None = None
-        self._most = TIMEOUT  # seconds of a call, and between two that fail
-        self._log: Log | None = None
+        self._most = TIMEOUT  # seconds of a call, and between two that fail while a lease is held
+        self._longest = 5 * TIMEOUT  # seconds between two calls that fail
+        self._log: KeptLog | NoLog | None = None
         self._leases: Leases | None = None
-        self._phase: Phase | None = None
+        self._dropped: list[int] = []  # lives whose leases are to be freed
+        self._phases = Phases(self._control)
         self._renew_at = 0
         self._served: Ranges = []
-        self._moving: Ranges = []
         self._is_behind = False
-        self._open: set[Lease] = set()
         self._loads: Counts[int] = Counts()
-        self._woken, self._left = asyncio.Event(), asyncio.Event()
-        self._running: list[asyncio.Task[None]] = []
-        self._others: set[asyncio.Task[None]] = set()
+        self._loops: list[asyncio.Task[None]] = []
+        self._answered = 0  # when a plane answered a call for a lease last, in ns of real time
+        self._is_cut_off = self._is_draining = False
+        self._over = asyncio.Event()
+        self._broken: ClockBroken | None = None
 
     def _tickets_of(self, process: int | None) -> Tickets:
         number = FIRST_PROCESS + self.task - 1 if process is None else process
+        if self._folder is None:
+            return Tickets(number, None, now=follow, system=self._system)
+        self._folder.mkdir(mode=0o700, parents=True, exist_ok=True)
         path = self._folder / f"task-{self.task}.ticket"
         return Tickets(number, path, now=follow, system=self._system)
 
     # Life of the process. -----------------------------------------------------------------------
 
     async def start(self) -> None:
-        """Begins to follow the table. Returns when the job is known, not when keys are served."""
+        """Begins to follow the table. Returns when the job is known, not when keys are served.
+
+        Raises ValueError if the policy is none or the log of today is of another one, and Rejected if the job has
+        another policy, or is not there and no policy is given.
+        """
         members = await self._learn_policy()
         self._policy = policy_of(members)
         # A lease that is renewed at half of it leaves time for two calls that are lost.
         self._most = min(TIMEOUT, self._policy.guard / 5000)
-        self._control.timeout = min(self._control.timeout, self._most)
-        name = f"task-{self.task}"
-        self._log = Log(self._folder, name, job_line(members), system=self._system)
-        loops = (self._watch(), self._act(), self._report())
-        self._running = [asyncio.create_task(loop) for loop in loops]
+        self._longest = max(self._most, self._policy.guard / 1000)
+        self._control.limit(self._most)
+        self._log = self._log_of(job_line(members))
+        loops = {"phase": self._watch, "lease": self._act, "report": self._report}
+        with about(job=self.job, task=self.task):
+            self._loops = [self._supervisor.watch(where, loop) for where, loop in loops.items()]
+
+    @property
+    def state(self) -> str:
+        """What the task does, in words: `starting` until its first lease, `serving`, `moving` while it gives keys
+        up, `cut off since` a real time if no plane has answered a call for a lease since then, `draining` while it is
+        drained or stopped, and `stopped`."""
+        if self._over.is_set():
+            return "stopped"
+        if self._is_draining:
+            return "draining"
+        if not self.renewed.times:
+            return "starting"
+        if self._is_cut_off:
+            seconds = self._answered // 1_000_000_000
+            return time.strftime("cut off since %Y-%m-%dT%H:%M:%SZ", time.gmtime(seconds))
+        return "moving" if self._moves.moving else "serving"
+
+    def is_ready(self) -> bool:
+        """Whether requests may be sent to the task, for a readiness probe: from its first lease on, also while it is
+        cut off, so that planes that are gone empty no load balancer; not while it is drained or has ended."""
+        return self.renewed.times > 0 and not (self._is_draining or self._over.is_set())
+
+    def _log_of(self, job: str) -> KeptLog | NoLog:
+        if self._folder is None:
+            return NoLog()
+        name, system = f"task-{self.task}", self._system
+        opens = partial(Log, self._folder, name, job, keep=self._keep_logs, system=system)
+        return KeptLog(opens, f"task {self.task}", logger, self.metrics.log_missing.inc, system.monotonic)
 
     async def wait(self) -> None:
-        """Waits until the task ends by itself, and raises why: ClockBroken, Rejected, OSError."""
-        ended, _ = await asyncio.wait(self._running, return_when=asyncio.FIRST_COMPLETED)
-        for one in ended:
-            one.result()
+        """Waits until the task has ended: by `stop`, or by what cannot mend itself, which it raises: ClockBroken."""
+        await self._over.wait()
+        if self._broken is not None:
+            raise self._broken
 
     async def stop(self) -> None:
         """Gives up all leases, frees them at the table and ends."""
-        for one in self._running:
-            one.cancel()
-        await asyncio.gather(*self._running, return_exceptions=True)
-        self._running = []
+        self._is_draining = True
+        for loop in self._loops:
+            loop.cancel()
+        await asyncio.gather(*self._loops, return_exceptions=True)
         try:
             if self._leases is not None:
                 await within(2 * self._patience + TIMEOUT, self._end_life())
         except (Unreachable, TimeoutError, Refused, ClockBehind) as why:
             logger.warning("task %d ends with leases that were not freed: %s", self.task, why)
-        for other in list(self._others):
-            other.cancel()
-        await asyncio.gather(*self._others, return_exceptions=True)
+        except Exception as why:
+            self._supervisor.caught("stop", why)
+        await self._supervisor.close()
         await self._control.close()
         if self._log is not None:
             self._log.close()
         self._tickets.close()
+        self._over.set()
 
     async def __aenter__(self) -> "Task":
         try:
@@ -282,25 +302,22 @@ class Task:
         await self.stop()
 
     async def _learn_policy(self) -> Mapping[str, Any]:
+        if self._given_policy is not None:
+            replies.check_policy(self.job, self._given_policy)
         backoff = Backoff(self._random.random)
         while True:
             try:
                 return await self._policy_told()
             except Unreachable as why:
-                self._note_unreachable(why)
-                await asyncio.sleep(backoff.seconds(why.again))
+                if why.status == 404 and self._given_policy is None and "there is no job" in str(why):
+                    raise Rejected(404, f"there is no job {self.job}: PUT it, or give the task a policy") from why
+                await asyncio.sleep(self._wait_after(why, backoff))
 
     async def _policy_told(self) -> Mapping[str, Any]:
         if self._given_policy is None:
-            answer = await self._control.call("GET")
-            policy = answer.value()["policy"]
-            assert isinstance(policy, dict)
-            return policy
-        answer = await self._control.call("PUT", body=dict(self._given_policy))
-        if answer.status == 409:
+            return await self._control.read(partial(replies.policy_in, self.job), "GET")
+        if not await self._control.read(replies.is_created, "PUT", body=dict(self._given_policy)):
             raise Rejected(409, f"job {self.job} has another policy")
-        if not _is_object(answer.body):
-            raise Unreachable("what answered is no control plane")
         return self._given_policy
 
     # What is asked for a key. -------------------------------------------------------------------
@@ -313,7 +330,7 @@ class Task:
         the time: then the block has no answer. A block that raises is not asked again.
         """
         lease = self._enter(key)
-        self._open.add(lease)
+        self._moves.enter(lease)
         try:
             yield lease
             lease.check()
@@ -321,8 +338,7 @@ class Task:
             self.metrics.lost.inc()
             raise
         finally:
-            self._open.discard(lease)
-            self._left.set()
+            self._moves.leave(lease)
 
     def ask(self, key: str) -> Lease:
         """Asks for a key as the entry of a block of `serving` does, and returns the right to it.
@@ -341,29 +357,30 @@ class Task:
 
     def served(self) -> Ranges:
         """Returns the slice keys that the task may serve, as far as it last noticed."""
-        return minus(self._served, self._moving)
+        return minus(self._served, self._moves.moving)
 
     def _enter(self, key: str) -> Lease:
         self.metrics.requests.inc()
         slice_key_ = slice_key(key.encode())
-        if holds(self._moving, slice_key_):
+        if holds(self._moves.moving, slice_key_):
             raise self._denied(key, "moving")
         if self._leases is None:
             raise self._denied(key, "down")
+        is_logged = self._sample >= 1 or self._random.random() < self._sample
         try:
-            served = self._leases.serve(slice_key_)
+            served = self._leases.serve(slice_key_, is_logged)
         except Refused as refused:
             raise self._denied(key, str(refused)) from refused
         except ClockBehind as behind:
             raise self._denied(key, "clock-behind") from behind
         self._loads[slice_key_ >> (63 - LOAD_BITS)] += 1
-        return Lease(self, key, slice_key_, served.generation)
+        return Lease(self, key, slice_key_, served.generation, is_logged)
 
-    def _hold(self, key: str, slice_key_: int) -> Hold:
+    def _hold(self, key: str, slice_key_: int, is_logged: bool = True) -> Hold:
         if self._leases is None:
             raise self._denied(key, "down")
         try:
-            return Hold(self, key, self._leases, self._leases.hold(slice_key_))
+            return Hold(self, key, self._leases, self._leases.hold(slice_key_, is_logged), is_logged)
         except Refused as refused:
             raise self._denied(key, str(refused)) from refused
         except ClockBehind as behind:
@@ -381,67 +398,64 @@ class Task:
         backoff = Backoff(self._random.random, most=self._most)
         while True:
             try:
-                await self._look()
+                await self._phases.look()
                 backoff.reset()
             except Unreachable as why:
-                self._note_unreachable(why)
-                await asyncio.sleep(backoff.seconds(why.again))
-
-    async def _look(self) -> None:
-        """Learns the phase of the table, as soon as it is another one than the known one."""
-        known, limit = self._phase, self._control.timeout
-        path = "/phase"
-        if known is not None:
-            path += f"?committed={known.committed}&pending={known.proposed}"
-            limit = WAIT + self._control.timeout
-        answer = await self._control.call("GET", path, timeout=limit)
-        if answer.status == 204:
-            return
-        value = answer.value()
-        phase = Phase(int(value["committed"]), int(value["pending"] or 0))
-        if known is None or _place(phase) > _place(known):
-            self._phase = phase
-            self._woken.set()
-        elif _place(phase) < _place(known):
-            await asyncio.sleep(0.2)  # a plane that stands by is behind
-
-    def _learn_phase(self, kind: str, generation: int) -> None:
-        """Learns from a lease: a bridge to a generation says that it is proposed."""
-        pair = (generation, 0) if kind == "guard" else (generation - 1, generation)
-        if self._phase is None or pair > _place(self._phase):
-            self._phase = Phase(*pair)
+                await asyncio.sleep(self._wait_after(why, backoff))
 
     # Leases. ------------------------------------------------------------------------------------
 
     async def _act(self) -> None:
-        """Does what the slicelet says, one thing after the other."""
+        """Does what the slicelet says, one thing after the other. After an error that nobody expected it begins with
+        another life: what the slicelet then knows is not sure."""
+        self._drop_life()
         backoff = Backoff(self._random.random, most=self._most)
         while True:
+            must = 0.0  # seconds that pass whatever happens
             try:
                 seconds = await self._step()
                 backoff.reset()
             except Unreachable as why:
-                self._note_unreachable(why)
-                seconds = backoff.seconds(why.again)
-            except ClockBehind as why:
-                self._note_behind(str(why))
+                self._is_cut_off, must = True, why.least
+                seconds = self._wait_after(why, backoff)
+            except ClockBehind as behind:
+                self._note_behind(str(behind))
                 seconds = backoff.seconds()
+            except ClockBroken as broken:
+                self._broken = broken
+                self._over.set()
+                return
             self._notice()
-            if seconds > 0:
+            if must > 0:
+                await asyncio.sleep(seconds)
+            elif seconds > 0:
                 await self._pause(seconds)
+
+    def _wait_after(self, why: Unreachable, backoff: Backoff) -> float:
+        """Notes a call that no plane did, and returns for how many seconds to wait before it is made again: for at
+        most a guard term, or a fifth of it while a lease is held, and for no less than planes at a limit need."""
+        self._note_unreachable(why)
+        most = self._most if self._served else self._longest
+        seconds = min(backoff.seconds(why.again), most)
+        return max(seconds, why.least * (1 + JITTER * self._random.random()))
 
     async def _pause(self, seconds: float) -> None:
         """Waits, but not longer than until the phase is another one."""
-        await pause(seconds, self._woken)
-        self._woken.clear()
+        await pause(seconds, self._phases.changed)
+        self._phases.changed.clear()
 
     async def _step(self) -> float:
         """Does one thing, and returns for how many seconds nothing is to be done."""
+        assert self._log is not None
+        if self._log.is_stopped and self._log.is_ready():
+            await self._leave_life()
+            self._log.go_on()
         if self._leases is not None and self._leases.calls_left() < LAST_CALLS:
             await self._end_life()
         if self._leases is None:
             self._leases = await self._begin_life()
-        leases, phase = self._leases, self._phase
+            self._free_dropped()
+        leases, phase = self._leases, self._phases.known
         if not leases.is_sampled():
             return await self._ask(leases)
         try:
@@ -466,12 +480,11 @@ class Task:
     async def _begin_life(self) -> Leases:
         """Begins a life that was never started, with a clock of its own."""
         assert self._policy is not None and self._log is not None
-        answer = await self._control.call("POST", f"/tasks/{self.task}/life")
-        value = answer.value()
+        life, last = await self._control.read(replies.life_in, "POST", f"/tasks/{self.task}/life")
         oldest = self._policy.guard * 9 // 10 if self._oldest is None else self._oldest
         clock = TaskClock(self._drift.extra, self._drift.per, GRAIN, oldest)
         self.metrics.lives.inc()
-        life, last = int(value["life"]), int(value["last"])
+        self._is_draining = False  # the life before may have been drained
         given = (clock, self._local_clock, self._tickets, self._log)
         return Leases(self.job, self.task, life, last, *given)
 
@@ -486,38 +499,64 @@ class Task:
         self._leases = None
         leases.close()
 
+    async def _leave_life(self) -> None:
+        """Ends the life after its blocks, without a line of the log, which has not its other lines."""
+        leases = self._leases
+        if leases is not None:
+            for kind in KINDS:
+                if kind in leases.held:
+                    self._moves.moving = leases.held[kind].ranges
+                    await self._leave(leases, self._moves.moving, leases.held[kind].until)
+            self._drop_life()
+
+    def _drop_life(self) -> None:
+        """Ends the life at once. What it may hold, also a lease that `held` lacks, is freed once the next one has
+        begun, as the notes of a life that has ended."""
+        leases, self._leases = self._leases, None
+        self._moves.moving = []
+        if leases is not None:
+            self._notice()
+            leases.close()
+            self._dropped.append(leases.life)
+
+    def _free_dropped(self) -> None:
+        dropped, self._dropped = self._dropped, []
+        for life in dropped:
+            for kind in KINDS:
+                note = ended_note(self.job, self.task, life, kind)
+                self._supervisor.spawn("free", self._free(note))
+
     async def _ask(self, leases: Leases) -> float:
         """Asks the table for a grant, and hears it."""
-        answer = await self._control.call(
-            "POST", "/grant", {"task": self.task, "life": leases.life}
+        told = await self._control.read(
+            partial(replies.granted, self.job), "POST", "/grant", {"task": self.task, "life": leases.life}
         )
-        if answer.reading is not None:
-            leases.sample(answer.sent, answer.reading)
+        self._answered, self._is_cut_off = self._system.real_nanoseconds(), False
+        if told.answer.reading is not None:
+            leases.sample(told.answer.sent, told.answer.reading)
         if not leases.started and leases.is_sampled():
             leases.start()
-        if answer.status == 409:
-            return self._refused(answer)
-        self._stop_at_evidence(leases, answer.body)
+        if told.grant is None:
+            return self._refused(told.refused)
+        self._stop_at_evidence(leases, told.answer.body)
         try:
-            leases.hear(answer.body)
+            leases.hear(told.answer.body)
         except Refused as refused:
             logger.info("task %d: a grant was not heard: %s", self.task, refused)
             return 0.1
-        self._heard(leases, answer)
+        self._heard(leases, told.grant.kind)
         return 0.0
 
-    def _refused(self, answer: Answer) -> float:
+    def _refused(self, word: str) -> float:
         """Returns for how long to wait after the table refused a grant."""
-        word = answer.value().get("refused")
         if word == "no-assignment":
             return 0.5
         logger.warning("task %d: the table refused a grant: %s", self.task, word)
         return 2.0
 
-    def _heard(self, leases: Leases, answer: Answer) -> None:
+    def _heard(self, leases: Leases, kind: str) -> None:
         """Sets when the lease is renewed: at half of it, a little earlier or later."""
-        kind = str(answer.value()["value"]["kind"])
-        self._learn_phase(kind, leases.held[kind].generation)
+        self._phases.learn(kind, leases.held[kind].generation)
         self.metrics.heard(kind)
         self.renewed = Renewed(self.renewed.times + 1, self._system.monotonic())
         self.metrics.left.set(leases.calls_left())
@@ -540,33 +579,31 @@ class Task:
         """
         lost = leases.held[kind].ranges if is_last else leases.lost_without(kind)
         if lost and kind in leases.held:
-            self._moving = lost
+            self._moves.moving = lost
             try:
-                await self._leave(lost, leases.held[kind].until)
+                await self._leave(leases, lost, leases.held[kind].until)
                 note = leases.release(kind)
             finally:
-                self._served = minus(self._served, self._moving)
-                self._moving = []
+                self._served = minus(self._served, lost)
+                self._moves.moving = []
         else:
             note = leases.release(kind)
         freeing = self._free(note)
         if is_last:
             await freeing
         else:
-            self._spawn(freeing)
+            self._supervisor.spawn("free", freeing)
 
-    async def _leave(self, lost: Ranges, deadline: int) -> None:
-        """Tells that keys are given up, and waits until no block is open on them."""
+    async def _leave(self, leases: Leases, lost: Ranges, deadline: int) -> None:
+        """Tells that keys are given up, and waits until no block is open on them, but not until the lease has ended:
+        then they are lost anyway."""
         try:
-            await within(self._patience, self._tell_lost(lost, deadline))
-            await within(self._patience, self._all_left(lost))
-        except TimeoutError:
-            logger.info("task %d gives up keys on which a block is open", self.task)
-
-    async def _all_left(self, lost: Ranges) -> None:
-        while any(holds(lost, lease.slice_key) for lease in self._open):
-            self._left.clear()
-            await self._left.wait()
+            left = max(0, deadline - leases.read()) / 1000
+        except ClockBehind:
+            left = 0.0
+        late = await self._moves.give_up(lost, deadline, min(self._patience, left))
+        if late:
+            logger.info("task %d gives up keys, and did not wait for %s", self.task, late)
 
     async def _free(self, note: bytes) -> None:
         """Brings a note to the table, as long as it may be of use."""
@@ -575,11 +612,10 @@ class Task:
         end = asyncio.get_running_loop().time() + self._policy.guard / 1000
         while asyncio.get_running_loop().time() < end:
             try:
-                await self._control.call("POST", "/free", note)
+                await self._control.read(replies.freed_in, "POST", "/free", note)
                 return
             except Unreachable as why:
-                self._note_unreachable(why)
-                await asyncio.sleep(backoff.seconds(why.again))
+                await asyncio.sleep(self._wait_after(why, backoff))
 
     def _stop_at_evidence(self, leases: Leases, grant: bytes) -> None:
         """Ends the task if a grant shows that a clock breaks the drift that it was given.
@@ -592,8 +628,8 @@ class Task:
         self._count_behind()
         for kind in KINDS:
             try:
-                self._spawn(self._free(leases.release(kind)))
-            except Refused:
+                self._supervisor.spawn("free", self._free(leases.release(kind)))
+            except (Refused, ClockBehind):
                 pass  # nothing of the kind is held
         self._notice()
         why = f"task {self.task}: a grant shows that a clock breaks its drift; the task ends"
@@ -613,34 +649,41 @@ class Task:
         self._served = live
         self.metrics.keys.set(sum(end - start for start, end in live) / KEYS)
         if lost:
-            self._spawn(self._tell_lost(lost, 0 if leases is None else leases.clock.given))
-        if gained and self._on_gain is not None:
-            self._spawn(_awaited(self._on_gain(gained)))
-
-    async def _tell_lost(self, lost: Ranges, deadline: int) -> None:
-        if self._on_lose is not None:
-            await _awaited(self._on_lose(lost, deadline))
+            self._moves.lost(lost, 0 if leases is None else leases.clock.given)
+        if gained:
+            self._moves.gained(gained)
 
     async def _report(self) -> None:
-        """Reports how many requests each part of the keys had, and why keys were denied."""
+        """Reports how many requests each part of the keys had, and why keys were denied; and asks whether the task is
+        drained, as long as it has no keys."""
         while True:
             await asyncio.sleep(self._report_every)
-            counts, self._loads = self._loads, Counts()
-            width = KEYS >> LOAD_BITS
-            loads = [
-                [str(part * width), str((part + 1) * width), count]
-                for part, count in sorted(counts.items())
-            ]
-            told = {
-                "task": self.task, "loads": loads, "denied": dict(self.metrics.denials),
-                "clock_behind": self.clock_behind_total,
-            }
-            if self._leases is not None:
-                told["calls_left"] = self._leases.calls_left()
             try:
-                await self._control.call("POST", "/loads", told)
+                await self._control.read(replies.done, "POST", "/loads", self._told())
+                if self.renewed.times and not self._served and not self._is_cut_off:
+                    reads = partial(replies.is_draining, self.task)
+                    self._is_draining = await self._control.read(reads, "GET")
             except Unreachable as why:
                 self._note_unreachable(why)
+
+    def _told(self) -> dict[str, Any]:
+        """Returns what is reported."""
+        counts, self._loads = self._loads, Counts()
+        width = KEYS >> LOAD_BITS
+        loads = [
+            [str(part * width), str((part + 1) * width), count] for part, count in sorted(counts.items())
+        ]
+        told = {
+            "task": self.task, "loads": loads, "denied": dict(self.metrics.denials),
+            "clock_behind": self.clock_behind_total,
+        }
+        if self._leases is not None:
+            told["calls_left"] = self._leases.calls_left()
+        return told
+
+    def _note_unreachable(self, why: Unreachable) -> None:
+        self.metrics.unreachable.inc()
+        logger.info("task %d: %s", self.task, why)
 
     def _note_behind(self, why: str) -> None:
         if not self._is_behind and self._leases is not None and self._leases.is_sampled():
@@ -651,34 +694,3 @@ class Task:
     def _count_behind(self) -> None:
         self.clock_behind_total += 1
         self.metrics.behind.inc()
-
-    def _note_unreachable(self, why: Unreachable) -> None:
-        self.metrics.unreachable.inc()
-        logger.info("task %d: %s", self.task, why)
-
-    def _spawn(self, work: Coroutine[Any, Any, None]) -> None:
-        other = asyncio.get_running_loop().create_task(work)
-        self._others.add(other)
-        other.add_done_callback(self._ended)
-
-    def _ended(self, other: asyncio.Task[None]) -> None:
-        self._others.discard(other)
-        if not other.cancelled() and other.exception() is not None:
-            logger.error("task %d", self.task, exc_info=other.exception())
-
-
-def _is_object(body: bytes) -> bool:
-    try:
-        return isinstance(json.loads(body), dict)
-    except (ValueError, RecursionError):
-        return False
-
-
-def _place(phase: Phase) -> tuple[int, int]:
-    """Phases of a table in the order in which they come."""
-    return phase.committed, phase.proposed
-
-
-async def _awaited(made: Awaitable[None] | None) -> None:
-    if made is not None:
-        await made

@@ -23,7 +23,7 @@ COUNTER_BITS = 8
 PROCESS_BITS = 8
 PLACES = 1 << 56
 TICKETS = PLACES << PROCESS_BITS
-DAY = 86_400_000  # in milliseconds
+FARTHEST = 1 << 47  # milliseconds: no ticket of the year 6429 or later is drawn or observed
 MAGIC = b"hourstable-ticket"
 
 
@@ -65,7 +65,12 @@ class Tickets:
     `now` returns milliseconds of real time, and `boot` is the id of this boot of the machine; both
     are by default those of `system`.
 
-    Raises ValueError if `process` is not 0 to 255 or the file is none of tickets, and
+    A process follows whatever it observes, so that the order of cause is kept however far real times are apart. One
+    that is days ahead, or was, is followed until the real times of the others are there: nothing fails for it. Only
+    what is beyond FARTHEST, which no clock that is set shows, is left out, where it would be drawn and where it is
+    observed; `left_out` counts it.
+
+    Raises ValueError if `process` is not 0 to 255, or the file is none of tickets or has one beyond FARTHEST, and
     BlockingIOError if another process draws from the file.
     """
 
@@ -84,7 +89,7 @@ class Tickets:
         self.process = process
         self._system = system
         self._now = self._real_milliseconds if now is None else now
-        self._real = self._real_milliseconds if now is follow else self._now
+        self.left_out = 0  # real times and tickets beyond FARTHEST
         self._ahead = ahead << COUNTER_BITS
         self._lock = threading.Lock()
         boot = system.boot() if boot is None else boot
@@ -95,11 +100,15 @@ class Tickets:
         return self._system.real_nanoseconds() // 1_000_000
 
     def draw(self) -> int:
-        """Returns a ticket above all that were drawn or observed before. Raises OverflowError if
-        there is none."""
+        """Returns a ticket above all that were drawn or observed before. Raises OverflowError if there is none below
+        FARTHEST, and OSError if the file cannot be written."""
         with self._lock:
-            place = max(self._last + 1, self._now() << COUNTER_BITS)
-            if place >= PLACES:
+            now = self._now()
+            if now >= FARTHEST:
+                self.left_out += 1
+                now = 0
+            place = max(self._last + 1, now << COUNTER_BITS)
+            if place >= FARTHEST << COUNTER_BITS:
                 raise OverflowError("no ticket is left")
             if self._file is not None:
                 self._file.keep(place, self._ahead)
@@ -107,27 +116,24 @@ class Tickets:
             return place << PROCESS_BITS | self.process
 
     def observe(self, ticket: int) -> None:
-        """Takes the ticket of a message that was received, before its effects draw one.
-
-        Raises ValueError, and observes nothing, if it is no number of 64 bits or is more than a day
-        ahead of the real time: one sender with a wrong clock would otherwise use up the tickets of
-        all.
-        """
-        if not 0 <= ticket < TICKETS:
+        """Takes the ticket of a message that was received, before its effects draw one. One beyond FARTHEST is not
+        observed, and counted: the message is as good as any. Raises ValueError if it is below 0."""
+        if ticket < 0:
             raise ValueError(f"{ticket} is no ticket")
-        if milliseconds_of(ticket) > self._real() + DAY:
-            raise ValueError(f"ticket {ticket} is more than a day ahead")
         with self._lock:
-            self._last = max(self._last, ticket >> PROCESS_BITS)
+            if milliseconds_of(ticket) >= FARTHEST:
+                self.left_out += 1
+            else:
+                self._last = max(self._last, ticket >> PROCESS_BITS)
 
     def observe_text(self, text: str | None) -> None:
-        """Observes the ticket in a header of a message; None, for no header, is nothing to
-        observe."""
+        """Observes the ticket in a header of a message; None, for no header, is nothing to observe. Raises ValueError
+        if the text is no number."""
         if text is None:
             return
         if not (text.isascii() and text.isdigit()):
             raise ValueError(f"{text[:40]!r} is no ticket")
-        self.observe(int(text))
+        self.observe(int(text[:40]))
 
     def close(self) -> None:
         """Closes the file, so that another process may draw from it. A ticket drawn later is kept
@@ -136,6 +142,19 @@ class Tickets:
             file, self._file = self._file, None
             if file is not None:
                 file.close()
+
+
+class NoTickets(Tickets):
+    """The tickets of a process that logs nothing, and so has no number of its own: 0, which moves nobody's."""
+
+    def __init__(self) -> None:
+        super().__init__(0, None)
+
+    def draw(self) -> int:
+        return 0
+
+    def observe(self, ticket: int) -> None:
+        """Does nothing."""
 
 
 class _Fields(ctypes.Structure):
@@ -154,10 +173,15 @@ class _Kept:
 
     def __init__(self, path: Path, boot: bytes, system: System) -> None:
         self.path, self.boot, self.system = path, boot, system
-        self.file = system.open(path, os.O_RDWR | os.O_CREAT | os.O_CLOEXEC, 0o644)
+        self.file = system.open(path, os.O_RDWR | os.O_CREAT | os.O_CLOEXEC, 0o600)
         try:
             fcntl.flock(self.file, fcntl.LOCK_EX | fcntl.LOCK_NB)
             self._open()
+            if self.last() >= FARTHEST << COUNTER_BITS:
+                raise ValueError(
+                    f"{path} has a ticket beyond the year 6429, of a clock that was wrong: remove the file, and audit"
+                    " what is logged from then on by itself"
+                )
         except BaseException:
             system.close(self.file)
             raise
@@ -186,10 +210,16 @@ class _Kept:
         return int(self.fields.last)
 
     def keep(self, place: int, ahead: int) -> None:
-        """Keeps a place that is about to be drawn, and if need be a new one above it."""
-        if place >= self.fields.ceiling:
+        """Keeps a place that is about to be drawn, and if need be a new one above it. Raises OSError, and keeps
+        nothing, if that does not reach the disk."""
+        before = self.fields.ceiling
+        if place >= before:
             self.fields.ceiling = min(place + ahead + 1, PLACES)
-            self.system.flush(self.memory)
+            try:
+                self.system.flush(self.memory)
+            except BaseException:
+                self.fields.ceiling = before
+                raise
         self.fields.last = place
 
     def close(self) -> None:

@@ -6,7 +6,7 @@ task and takes no cancellation back. Here the work has a task of its own, and ne
 """
 
 import asyncio
-from collections.abc import Coroutine
+from collections.abc import Callable, Coroutine
 from typing import Any, TypeVar
 
 T = TypeVar("T")
@@ -29,9 +29,41 @@ async def within(seconds: float, work: Coroutine[Any, Any, T]) -> T:
             child.exception()  # it is told, or the caller was cancelled at the same time
 
 
+async def unless(ends: Coroutine[Any, Any, None], work: Coroutine[Any, Any, T]) -> T:
+    """Returns what a coroutine returns. Raises TimeoutError, and cancels it, if another one ends first."""
+    child, end = asyncio.create_task(work), asyncio.create_task(ends)
+    try:
+        await asyncio.wait({child, end}, return_when=asyncio.FIRST_COMPLETED)
+        if child.done() and not child.cancelled():
+            return child.result()
+        raise TimeoutError("another control plane is asked now")
+    finally:
+        for one in (child, end):
+            one.cancel()
+        await asyncio.gather(child, end, return_exceptions=True)
+
+
 async def pause(seconds: float, event: asyncio.Event) -> None:
     """Waits until an event is set, but not longer than these seconds."""
     try:
         await within(seconds, event.wait())
     except TimeoutError:
         pass
+
+
+class Backoff:
+    """How long to wait after failures: longer at each, up to `most` seconds, and at random, so that
+    many that failed at once do not try again at once."""
+
+    def __init__(self, random: Callable[[], float], least: float = 0.05, most: float = 2.0) -> None:
+        self._random, self._least, self._most = random, least, most
+        self._next = least
+
+    def reset(self) -> None:
+        """Forgets the failures."""
+        self._next = self._least
+
+    def seconds(self, at_least: float = 0.0) -> float:
+        """Returns how long to wait after another failure."""
+        limit, self._next = self._next, min(2 * self._next, self._most)
+        return max(at_least, limit * (0.5 + 0.5 * self._random()))

@@ -4,6 +4,7 @@ import subprocess
 from pathlib import Path
 
 from hourstable import logs
+from hourstable.auditing import gaps_of
 
 SECONDS = 600  # that it may take
 
@@ -19,10 +20,10 @@ def gather(folder: Path, job: str) -> Path:
 
 def audit(folder: Path, job: str, program: str, must_be_timely: bool) -> str:
     """Audits the logs of a job, and returns what is wrong: nothing, if all its calls are one run and
-    its clocks were timely, where they must be."""
+    its clocks were timely, where they must be. Logs that say that lines are missing are no run."""
     gathered = gather(folder, job)
     files = logs.lay_out(gathered, folder / "audit" / job)
-    if not files:
+    if not files or gaps_of(gathered):
         return ""
     made = subprocess.run(
         [program, "audit", *map(str, files)], capture_output=True, text=True, timeout=SECONDS,

@@ -22,6 +22,7 @@ class File:
 
     grown: list[tuple[int, int]] = field(default_factory=list)  # the time, and the length from then on
     flushed: bytes | None = None
+    allocated: int = 0  # bytes for which there is room, also once the disk is full
 
 
 class Disk:
@@ -45,11 +46,18 @@ class Disk:
 
     def write(self, process: "Process", file: int, data: bytes) -> int:
         _, name = self._open[file]
-        if self._is_full(name):
+        if self._is_full(name) and os.fstat(file).st_size + len(data) > self._files[name].allocated:
             raise OSError(errno.ENOSPC, "no space left on device", name)
         length = os.write(file, data)
         self._files[name].grown.append((process.world.now, os.fstat(file).st_size))
         return length
+
+    def allocate(self, file: int, end: int) -> None:
+        """Notes that there is room for the bytes of a file up to this length."""
+        _, name = self._open[file]
+        if self._is_full(name):
+            raise OSError(errno.ENOSPC, "no space left on device", name)
+        self._files[name].allocated = max(self._files[name].allocated, end)
 
     def close(self, file: int) -> None:
         self._open.pop(file, None)

@@ -15,9 +15,13 @@ SIZE = 300  # bytes, for the delay
 class Exchange:
     """A request of a process to an address. Its caller may leave; what was begun then goes on."""
 
-    def __init__(self, network: "Network", process: Process, at: "At", asked: Any) -> None:
+    def __init__(
+        self, network: "Network", process: Process, at: "At", asked: Any, silence: float = 0.0
+    ) -> None:
         self._network, self._world = network, network.world
         self.process, self.at, self.asked = process, at, asked
+        self._silence = silence  # seconds without a beat that end it; 0 for none
+        self._heard = 0.0  # when its process heard the last beat
         self.server: Process | None = None  # once it has begun
         self.answer: "asyncio.Future[Any]" = process.loop.create_future()
         self._is_lost = False
@@ -25,13 +29,24 @@ class Exchange:
         self._there = process.host.address, at[0]
 
     async def done(self) -> Any:
-        """Returns the answer. Raises OSError."""
+        """Returns the answer. Raises OSError, and TimeoutError if beats are missing."""
         self._network.traffic[self] = None
         self._go(self._there, self._arrive)
         try:
+            if self._silence:
+                await self._wait_for_beats()
             return await self.answer
         finally:
             self._network.traffic.pop(self, None)
+
+    async def _wait_for_beats(self) -> None:
+        loop = self.process.loop
+        self._heard = loop.time()
+        while not self.answer.done():
+            left = self._heard + self._silence - loop.time()
+            if left <= 0:
+                raise TimeoutError("beats are missing")
+            await asyncio.wait({self.answer}, timeout=left)
 
     def _go(self, link: "Link", action: Any) -> None:
         """Does something at the other end of a link, once it gets there."""
@@ -60,6 +75,17 @@ class Exchange:
         assert listener.answer is not None and self.server is not None
         task = self.server.loop.create_task(listener.answer(self.asked))
         task.add_done_callback(self._answered)
+        if self._silence:
+            self._beat(task)
+
+    def _beat(self, task: "asyncio.Task[Any]") -> None:
+        """Sends a beat as long as the answer is not there."""
+        if not task.done() and self.server is not None:
+            self._go(self._back(), partial(self._tell, self._hear))
+            self.server.loop.call_later(self._world.beat, self._beat, task)
+
+    def _hear(self) -> None:
+        self._heard = self.process.loop.time()
 
     def _answered(self, task: "asyncio.Task[Any]") -> None:
         if task.cancelled():
@@ -119,6 +145,7 @@ def _raise(answer: "asyncio.Future[Any]", error: Exception) -> None:
         answer.set_exception(error)
 
 
-async def ask(process: Process, at: "At", asked: Any) -> Any:
-    """Returns the answer of who listens at an address. Raises OSError, and what the handler raises."""
-    return await Exchange(process.world.network, process, at, asked).done()
+async def ask(process: Process, at: "At", asked: Any, silence: float = 0.0) -> Any:
+    """Returns the answer of who listens at an address. Raises OSError, and what the handler raises, and TimeoutError
+    if no beat comes for these seconds."""
+    return await Exchange(process.world.network, process, at, asked, silence).done()

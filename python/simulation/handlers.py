@@ -12,6 +12,7 @@ from aiohttp.streams import StreamReader
 from multidict import CIMultiDict, CIMultiDictProxy
 from yarl import URL
 
+from hourstable import beats
 from hourstable.control import Plane
 from hourstable.transport import Fetched
 
@@ -26,6 +27,7 @@ class Asked(NamedTuple):
     path: str
     headers: Mapping[str, str]
     body: bytes | None
+    peer: "Peer"
 
 
 class Direct:
@@ -40,7 +42,15 @@ class Direct:
         parts = urlsplit(url)
         path = f"{parts.path}?{parts.query}" if parts.query else parts.path
         at = str(parts.hostname), parts.port or 80
-        made = await ask(self._process, at, Asked(method, path, headers, body))
+        others = {name: value for name, value in headers.items() if name != beats.HEADER}
+        silence = 0.0
+        if method == "GET" and beats.HEADER in headers:  # the exchange beats in place of the plane
+            silence = beats.silence(self._process.world.beat)
+        peer = Peer()
+        try:
+            made = await ask(self._process, at, Asked(method, path, others, body, peer), silence)
+        finally:
+            peer.transport = None  # the plane sees that its caller has left
         if not isinstance(made, Fetched):
             raise aiohttp.ServerDisconnectedError
         return made
@@ -52,15 +62,13 @@ class Direct:
 class Peer(asyncio.Transport):
     """What a request asks of its transport and its protocol."""
 
-    transport: "Peer"
     _reading_paused = False
+
+    def __init__(self) -> None:
+        self.transport: Peer | None = self
 
     def get_extra_info(self, name: str, default: Any = None) -> Any:
         return default
-
-
-PEER = Peer()
-PEER.transport = PEER
 
 
 class Handlers:
@@ -93,12 +101,16 @@ class Handlers:
                                     query_string=asked.path.partition("?")[2], encoded=True),
         )
         loop = asyncio.get_running_loop()
-        protocol: Any = PEER
+        protocol: Any = asked.peer
         content = StreamReader(protocol, 1 << 16, loop=loop)
         if asked.body:
             content.feed_data(asked.body)
         content.feed_eof()
         task: Any = asyncio.current_task()
-        return web.Request(
+        has_left, asked.peer.transport = asked.peer.transport is None, asked.peer
+        request = web.Request(
             message, content, protocol, protocol, task, loop, client_max_size=(1 << 20) + 1
         )
+        if has_left:  # while the request was on its way
+            asked.peer.transport = None
+        return request

@@ -189,9 +189,11 @@ class Workers:
                 before, after = world.call_delay(process)
                 world.at(world.now + before, partial(self._effect, call, future, after))
 
-    def _effect(self, call: Action, future: "asyncio.Future[Any]", after: int) -> None:
+    def _effect(
+        self, call: Action, future: "asyncio.Future[Any]", after: int, has_left: bool = False
+    ) -> None:
         world, process = self._loop.world, self._loop.process
-        if process.is_dead and world.rng.random() < 0.5:
+        if process.is_dead and not has_left and world.rng.random() < 0.5:
             return  # the request had not left
         made: object = None
         error: Exception | None = None
@@ -200,7 +202,8 @@ class Workers:
                 made = world.call_through(call) if self._is_thread else call()
             except Held as why:
                 soon = min(why.until, world.now + SECOND // 4)  # or it is freed before
-                world.at(soon, partial(self._effect, call, future, after))
+                waits = partial(self._effect, call, future, after, not self._is_thread)  # in the engine
+                world.at(soon, waits)
                 return
             except Exception as why:
                 error = why

@@ -45,5 +45,8 @@ class Machine(System):
         self.process.world.may_stall()
         return self._host.disk.write(self.process, file, data)
 
+    def allocate(self, file: int, start: int, length: int) -> None:
+        self._host.disk.allocate(file, start + length)
+
     def close(self, file: int) -> None:
         self._host.disk.close(file)

@@ -46,8 +46,6 @@ MUTANTS = (
         ("        self._waiting.append(Waiting(call, answer))\n",
          "        call.drawn = self.tickets.draw()\n        self._waiting.append(Waiting(call, answer))\n"),
         ("            ticket = self.tickets.draw()  # after", "            ticket = call.drawn  # after"),
-        ("    key: str | None = None\n\n    @abstractmethod\n",
-         "    key: str | None = None\n    drawn = 0\n\n    @abstractmethod\n"),
     ), seeds="6"),
     Mutant("reading-before-ticket", "leases.py", ((
         "        call = LoggedCall(self._tickets.draw(), CALLS[do], task=self.task, **members)\n"
@@ -69,12 +67,12 @@ MUTANTS = (
         "            return self.clock.read(self.local_clock()) - 1500",
     ),), seeds="2"),
     Mutant("clock-stops-asleep", "clock.py", ((
-        "    ticks = boottime_ticks if system is SYSTEM else system.ticks",
+        "    ticks = steady_ticks if system is SYSTEM else system.ticks",
         "    ticks = lambda: int(system.monotonic() * 1000)",
     ),), seeds="41"),
     Mutant("sent-is-late", "calls.py", ((
-        "        return _taken(status, headers, found, sent)",
-        "        return _taken(status, headers, found, self.local_clock())",
+        "        return _taken(url, status, headers, found, sent)",
+        "        return _taken(url, status, headers, found, self.local_clock())",
     ),), seeds="6"),
     Mutant("life-twice", "store.py", ((
         "            return Life(life.life + 1, life.drained)",
@@ -85,11 +83,11 @@ MUTANTS = (
         'update = "UPDATE jobs SET lives = ? WHERE job = ? AND lives <> ? || \'x\'"',
     ),), why_not="no two processes of a task raise its life at one moment over SQLite"),
     Mutant("no-lock", "jobs.py", ((
-        "                async with self._lock:\n                    await self._make",
-        "                if True:\n                    await self._make",
+        "                async with self._lock:\n                    together = self._next_together()",
+        "                if True:\n                    together = self._next_together()",
     ),), seeds="31"),
     Mutant("observe-nothing", "calls.py", (
-        ("            self.tickets.observe_text(headers.get(HEADER))\n", ""),
+        ("            self.tickets.observe_text(headers.get(HEADER))\n", "            pass\n"),
     ), seeds="2"),
     Mutant("plane-observes-nothing", "control.py", ((
         "                self.tickets.observe_text(request.headers.get(ticketing.HEADER))",
@@ -112,11 +110,11 @@ MUTANTS = (
         ("        if boot and boot == self.fields.boot and", "        if boot and"),
     ), why_not="a message that is read first has a later ticket"),
     Mutant("poller-ends", "control.py", ((
-        '                log.warning("the store was not read: %s", error)\n                continue',
-        '                log.warning("the store was not read: %s", error)\n                return',
+        "                        followed.job.unsee()\n                    continue",
+        "                        followed.job.unsee()\n                    return",
     ),), seeds="31"),
     Mutant("notes-not-brought", "task.py", ((
-        '                await self._control.call("POST", "/free", note)\n                return',
+        '                await self._control.read(replies.freed_in, "POST", "/free", note)\n                return',
         "                return",
     ),), seeds="55"),
     Mutant("renews-late", "task.py", ((
@@ -124,21 +122,20 @@ MUTANTS = (
         "        half = max(0, leases.held[kind].until - at) * 1.2",
     ),), why_not="the gaps are of milliseconds"),
     Mutant("work-not-ended", "jobs.py", ((
-        "                    await self._make(self._next_together())\n"
-        "        finally:\n            self._working = None",
-        "                    await self._make(self._next_together())\n        finally:\n            pass",
+        "                one.fail(error)\n        finally:\n            self._working = None",
+        "                one.fail(error)\n        finally:\n            pass",
     ),), seeds="2"),
     Mutant("line-not-observed", "jobs.py", (
-        ("        self._observe(stored)\n        if self._seen", "        if self._seen"),
+        ("        self._observe(stored)\n        self._seen.saw", "        self._seen.saw"),
     ), seeds="9"),
     Mutant("looks-one-by-one", "control.py", ((
-        "                if name not in self._looking:\n"
-        "                    self._looking[name] = asyncio.create_task(self._look_at(name))\n"
-        "                    self._looking[name].add_done_callback(partial(self._looked, name))",
+        "                self._looking.add(name)\n"
+        "                looking = self.supervisor.spawn(\"look_at\", self._look_at(name))\n"
+        "                looking.add_done_callback(partial(self._looked, name))",
         "                await self._look_at(name)",
     ),), seeds="24"),
-    Mutant("policy-from-anything", "task.py", (
-        ("        if not _is_object(answer.body):", "        if False:"),
+    Mutant("policy-from-anything", "replies.py", (
+        ("    answer.value()\n    return answer.status != 409", "    return answer.status != 409"),
     ), why_not="an odd answer also ends the tasks, which then create the job"),
 )
 

@@ -80,6 +80,7 @@ async def run_plane(at: int, service: Service) -> None:
         "simulated:", service.host.disk.folder, host, port, process=at, shared=True,
         assigner=0 if cluster.scene.lone_assigners else at + 1,
         secrets=[OTHER_SECRET if wrong == "401" else SECRET], rules=RULES,
+        state=service.host.disk.folder / "state",
     )
     opens = partial(open_shared, cluster)
     running = ControlPlane(options, opens=opens, system=Machine(process))
@@ -114,10 +115,10 @@ async def run_assigner(at: int, service: Service) -> None:
     number = cluster.scene.planes + at
     path = service.host.disk.folder / f"assigner-{number}.ticket"
     tickets = Tickets(number, path, system=machine)
-    desk = HttpDesk(cluster.urls, tickets, SECRET, transport=transport_of(service))
+    desk = HttpDesk(cluster.urls, tickets, SECRET, transport=transport_of(service), system=machine)
     clock = local_clock(system=machine)
     try:
-        await AssignerOfJobs(number + 1, desk, clock, RULES).run()
+        await AssignerOfJobs(number + 1, desk, clock, RULES, system=machine).run()
     finally:
         await desk.close()
         tickets.close()

@@ -7,6 +7,7 @@ from pathlib import Path
 from random import Random
 from typing import Any, NamedTuple
 
+from hourstable.beats import PART
 from hourstable.service import ControlPlane
 from hourstable.task import Task
 
@@ -108,6 +109,7 @@ class Cluster:
     def __init__(self, world: World, folder: Path, scene: Scene) -> None:
         self.world, self.folder, self.scene = world, folder, scene
         self.rng = Random(f"{world.seed} cluster")
+        world.beat = scene.guard / 1000 / PART
         self.network = world.network = Network(world)
         self.engine = Engine(world, scene.engine == "sqlite")
         self.shelf = Shelf()

@@ -94,15 +94,16 @@ class Engine:
 
     def delay(self, process: Process) -> tuple[int, int]:
         """Returns the ns before the effect of a call, and from it to the answer."""
-        rng, now = self.rng, self.world.now
+        rng = self.rng
         before = int((rng.expovariate(1) * MILLISECOND + 200_000) * self.slow)
-        before += max(0, self.frozen.get(process.host.address, 0) - now)
         return before, int(rng.expovariate(1) * MILLISECOND * self.slow)
 
     def perform(self, call: Callable[[], T], job: str | None = None, writes: bool = True) -> T:
-        """Does a call, or lets it fail. Raises Held while the row of the job is locked, or that of
-        any job, if none is given: SQLite locks the whole file."""
+        """Does a call, or lets it fail. Raises Held while the engine stands still for the host, or the row of the
+        job is locked, or that of any job, if none is given: SQLite locks the whole file."""
         until = max(self.locked.values(), default=0) if job is None else self.locked.get(job, 0)
+        if self.world.current is not None:
+            until = max(until, self.frozen.get(self.world.current.host.address, 0))
         if until > self.world.now:
             raise Held(until)
         self.writes += writes

@@ -33,6 +33,7 @@ class Host:
 
     def __init__(self, world: "World", address: str, ppm: int, wall: int, disk: "Disk") -> None:
         self.world, self.address, self.ppm, self.disk = world, address, ppm, disk
+        self.own_rate, self.wrong_rates = ppm, 0  # how many faults let it run at another one
         self.wall = wall  # ns by which its real time is ahead of the world's
         self.is_down = self.is_asleep = False
         self.boots = 0
@@ -137,6 +138,7 @@ class World:
         self.seed, self.rng = seed, Random(f"{seed} world")
         self.now, self.events, self.digest = 0, 0, seed
         self.second = 0  # ns after midnight at which it begins
+        self.beat = 1.0  # seconds between two beats of a call that waits
         self.current: Process | None = None
         self.grave: list[object] = []  # what dead processes had, so that nothing of it is collected
         self.died: list[Death] = []

@@ -34,8 +34,8 @@ def assignment(generation: int, slices: Iterable[tuple[int, int]]) -> bytes:
 class Plane:
     """A table, behind HTTP. It logs its calls to a folder of logs."""
 
-    def __init__(self, folder: Path) -> None:
-        self.policy = dict(POLICY)
+    def __init__(self, folder: Path, guard: int = POLICY["guard"]) -> None:
+        self.policy: dict[str, Any] = {**POLICY, "guard": guard, "bridge": guard}
         names = ("skew", "guard", "bridge", "job", "numbers")
         given = Policy(*self.policy["redundancy"], *(self.policy[name] for name in names))
         self.table = Table(JOB, given)

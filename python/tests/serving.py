@@ -15,6 +15,7 @@ from hourstable.control import Limits, Plane
 from hourstable.jobs import Settings
 from hourstable.library import Phase, Refused, Slicelet
 from hourstable.store import Store
+from hourstable.system import SYSTEM, System, make_folder
 from hourstable.tickets import Tickets
 
 POLICY: dict[str, Any] = {
@@ -88,14 +89,15 @@ def assignment(generation: int, slices: list[Any], job: str = "shop") -> bytes:
 async def running(
     store: Store, folder: Path, process: int = 0, shared: bool = False, standby: float = 0.3,
     limits: Limits | None = None, secrets: list[str] | None = None, ahead: tuple[int, int] = (0, 0),
+    system: System = SYSTEM, poll: float = 0.05,
 ) -> AsyncIterator[tuple[Plane, Caller]]:
     """A plane that listens, and a caller of it."""
-    folder.mkdir(parents=True, exist_ok=True)
-    tickets = Tickets(process, folder / f"control-{process}.ticket")
-    settings = Settings(folder, process, shared, standby, *ahead, local=local_clock())
+    state = make_folder(folder.parent / "state")
+    tickets = Tickets(process, state / f"control-{process}.ticket", system=system)
+    settings = Settings(folder, process, shared, standby, *ahead, local=local_clock(), system=system)
     generous = Limits(grants=1e6, burst=1e6)
     plane = Plane(store, settings, tickets, limits or generous, secrets)
-    port = await plane.start("127.0.0.1", 0, poll=0.05)
+    port = await plane.start("127.0.0.1", 0, poll=poll)
     try:
         async with aiohttp.ClientSession() as session:
             yield plane, Caller(f"http://127.0.0.1:{port}", session)

@@ -9,10 +9,11 @@ import pytest
 from aiohttp import web
 
 from hourstable import logs
-from hourstable.calls import Backoff, Control, Rejected, Unreachable
+from hourstable.calls import Control, Unreachable
 from hourstable.client import Again, NoOwner, Router
 from hourstable.library import Found
 from hourstable.tickets import HEADER, Tickets
+from hourstable.waiting import Backoff
 from planes import JOB, Plane
 
 HALF = 1 << 62
@@ -121,7 +122,6 @@ async def test_a_call_goes_to_the_plane_that_answers(plane: Plane) -> None:
         answer = await control.call("GET")
         assert answer.value() == {"policy": plane.policy}
         assert (answer.status, answer.reading, answer.sent) == (200, None, 5)
-        assert control.urls[control._at] == plane.url
 
         async def replaced(_: web.Request) -> web.StreamResponse:
             return web.json_response(
@@ -134,7 +134,7 @@ async def test_a_call_goes_to_the_plane_that_answers(plane: Plane) -> None:
         assert "127.0.0.1:1" in str(raised.value) or raised.value.again == 2.0
 
 
-async def test_what_is_rejected_is_not_tried_again(plane: Plane) -> None:
+async def test_a_plane_that_knows_no_secret_is_asked_once_in_a_call(plane: Plane) -> None:
     asked = []
 
     async def fault(request: web.Request) -> web.StreamResponse:
@@ -143,7 +143,7 @@ async def test_what_is_rejected_is_not_tried_again(plane: Plane) -> None:
 
     plane.fault = fault
     async with Control(plane.url, JOB, Tickets(7, None), lambda: 0, secret="word") as control:
-        with pytest.raises(Rejected, match="401: no"):
+        with pytest.raises(Unreachable, match="401 no"):
             await control.call("GET")
     assert asked == ["Bearer word"]
 
@@ -161,7 +161,6 @@ async def test_tickets_go_both_ways(plane: Plane) -> None:
         await control.call("GET")
     assert plane.tickets.draw() > seen[0]
     behind = Tickets(8, None, now=lambda: 1)
-    behind._real = lambda: 1 << 47
     async with Control(plane.url, JOB, behind, lambda: 0) as control:
         await control.call("GET")
     assert behind.draw() > seen[0]

@@ -34,6 +34,8 @@ def exported_by_a_task() -> str:
     metrics = tasks.Metrics("shop", 1)
     metrics.denied("ended")
     metrics.heard("guard")
+    metrics.wrong_answer("401")
+    metrics.internal_error("on_lose")
     return metrics.text().decode()
 
 

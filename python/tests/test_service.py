@@ -16,6 +16,7 @@ import needed
 needed.library()
 
 from hourstable import logs  # noqa: E402
+from hourstable.assigner import AssignerOfJobs  # noqa: E402
 from hourstable.client import Router  # noqa: E402
 from hourstable.plans import Hysteresis  # noqa: E402
 from hourstable.service import ControlPlane, Options  # noqa: E402
@@ -124,6 +125,28 @@ async def test_whether_a_plane_is_idle(tmp_path: Path) -> None:
         await until(plane.idle)
 
 
+async def test_an_assigner_that_fails_begins_again(
+    tmp_path: Path, monkeypatch: pytest.MonkeyPatch
+) -> None:
+    runs, run = [], AssignerOfJobs.run
+
+    async def fails_first(self: AssignerOfJobs) -> None:
+        runs.append(self)
+        if len(runs) == 1:
+            raise KeyError("what nobody expects")
+        await run(self)
+
+    monkeypatch.setattr(AssignerOfJobs, "run", fails_first)
+    async with ControlPlane(options(tmp_path)) as running:
+        plane = running.plane
+        assert plane is not None
+        await until(lambda: len(runs) == 2)
+        assert plane.supervisor.errors == {"assigner": 1} and plane.supervisor.ended() == []
+        assert b'hourstable_internal_errors_total{where="assigner"} 1.0' in plane.metrics.text([])
+        async with Task(f"http://127.0.0.1:{running.port}", "shop", 1, policy=POLICY, logs=tmp_path / "t") as task:
+            await until(lambda: task.renewed.times >= 1)
+
+
 async def test_tasks_and_routers_over_a_transport(tmp_path: Path) -> None:
     """Both reach planes by what they are given, which they do not close; a task renews its lease."""
     async with ControlPlane(options(tmp_path)) as running, aiohttp.ClientSession() as session:
@@ -151,22 +174,20 @@ def test_the_system_of_tickets(tmp_path: Path) -> None:
     tickets = Tickets(1, tmp_path / "ticket", system=system)
     assert milliseconds_of(tickets.draw()) == 1_000_000_000_000
     assert system.flushed == 1
-    with pytest.raises(ValueError, match="more than a day ahead"):
-        tickets.observe((1_000_000_000_000 + 86_400_001) << 16)
     tickets.close()
 
 
 def test_the_system_of_logs(tmp_path: Path) -> None:
     system = Simulated()
     log = logs.Log(tmp_path, "task-1", logs.job_line(POLICY), system=system)
-    log.append("{}")
+    log.append('{"ticket":1}')
     system.is_full = True
     with pytest.raises(OSError, match="no space left"):
-        log.append('{"lost":1}')
+        log.append('{"ticket":2}')
     system.is_full = False
     system.real += 86_400_000_000_000
-    log.append('{"next":1}')
+    log.append('{"ticket":3}')
     log.close()
     names = ["task-1.2001-09-09.jsonl", "task-1.2001-09-10.jsonl"]
     assert [path.name for path in logs.files_of(tmp_path)] == names
-    assert [list(logs.calls_of(path)) for path in logs.files_of(tmp_path)] == [[{}], [{"next": 1}]]
+    assert [list(logs.calls_of(path)) for path in logs.files_of(tmp_path)] == [[{"ticket": 1}], [{"ticket": 3}]]

@@ -4,15 +4,19 @@ process."""
 import mmap
 import os
 import random
+import struct
 import subprocess
 import sys
 import time
+from collections.abc import Callable
 from pathlib import Path
 
 import pytest
 
 from hourstable.system import System
-from hourstable.tickets import DAY, Tickets, follow, milliseconds_of, process_of
+from hourstable.tickets import Tickets, follow, milliseconds_of, process_of
+
+DAY = 86_400_000  # in milliseconds
 
 
 class Clock:
@@ -73,24 +77,68 @@ def test_process_of_a_ticket() -> None:
     assert process_of(Tickets(255, None, now=Clock(1)).draw()) == 255
 
 
-@pytest.mark.parametrize("ticket", [-1, 1 << 64])
-def test_what_is_no_ticket_is_not_observed(ticket: int) -> None:
+def test_what_is_no_ticket_is_not_observed() -> None:
     tickets = Tickets(0, None, now=Clock(1000))
     with pytest.raises(ValueError, match="no ticket"):
-        tickets.observe(ticket)
+        tickets.observe(-1)
     assert tickets.draw() == 1000 << 16
 
 
-def test_a_ticket_more_than_a_day_ahead_is_not_observed() -> None:
+@pytest.mark.parametrize("now", [Clock(1000), follow])
+def test_a_ticket_of_days_or_years_ahead_is_followed(now: Callable[[], int]) -> None:
+    """Tickets keep the order of cause whatever the clocks of peers show, and the next one is above."""
+    tickets = Tickets(3, None, now=now)
+    for ahead in (1000 + 2 * DAY, 1000 + 40_000 * DAY, (1 << 47) - 1):
+        tickets.observe(ahead << 16)
+        assert tickets.draw() == (ahead << 16) + (1 << 8) + 3
+    assert tickets.left_out == 0
+
+
+@pytest.mark.parametrize("ticket", [1 << 63, (1 << 64) - 1, 1 << 64, 1 << 200])
+def test_a_ticket_beyond_all_clocks_is_not_observed_and_counted(ticket: int) -> None:
+    """Bit 47 of the milliseconds is bit 63 of the ticket. Nobody is refused for it."""
     tickets = Tickets(0, None, now=Clock(1000))
-    with pytest.raises(ValueError, match="a day ahead"):
-        tickets.observe((1000 + DAY + 1) << 16)
+    tickets.observe(ticket)
+    tickets.observe_text(str(ticket))
+    assert tickets.left_out == 2
     assert tickets.draw() == 1000 << 16
-    tickets.observe((1000 + DAY) << 16)
-    assert milliseconds_of(tickets.draw()) == 1000 + DAY
 
 
-@pytest.mark.parametrize("text", ["", "12a", "-1", "1.0", " 1", "\u0661", "1" * 30])
+def test_a_process_whose_clock_is_beyond_all_others_only_follows() -> None:
+    clock = Clock(1 << 47)
+    tickets = Tickets(0, None, now=clock)
+    tickets.observe(1000 << 16)
+    assert [tickets.draw(), tickets.draw()] == [1000 << 16 | 1 << 8, 1000 << 16 | 2 << 8]
+    assert tickets.left_out == 2
+    clock.now = 2000
+    assert tickets.draw() == 2000 << 16
+
+
+def test_a_clock_that_was_two_days_ahead(tmp_path: Path) -> None:
+    """The next process goes on above what was drawn then, and by its own time once that is there."""
+    clock = Clock(1000 + 2 * DAY)
+    first = Tickets(4, tmp_path / "ticket", now=clock)
+    last = first.draw()
+    first.close()
+    clock.now = 2000
+    second = Tickets(4, tmp_path / "ticket", now=clock)
+    assert second.draw() == last + (1 << 8)
+    clock.now = 1001 + 2 * DAY
+    assert second.draw() == clock.now << 16 | 4
+
+
+def test_a_file_with_a_ticket_beyond_all_clocks_says_what_to_do(tmp_path: Path) -> None:
+    path = tmp_path / "ticket"
+    fields = struct.pack("=24s40sQQ", b"hourstable-ticket", b"a boot", 1 << 56, 1 << 55)
+    path.write_bytes(fields)
+    with pytest.raises(ValueError, match="remove the file"):
+        Tickets(4, path)
+    path.unlink()
+    tickets = Tickets(4, path, now=Clock(1000))
+    assert tickets.draw() == 1000 << 16 | 4
+
+
+@pytest.mark.parametrize("text", ["", "12a", "-1", "1.0", " 1", "\u0661"])
 def test_a_header_that_is_no_ticket_is_refused(text: str) -> None:
     with pytest.raises(ValueError):
         Tickets(0, None).observe_text(text)
@@ -104,9 +152,9 @@ def test_headers() -> None:
 
 
 def test_the_last_place_is_the_last_ticket() -> None:
-    tickets = Tickets(2, None, now=Clock((1 << 48) - 1))
+    tickets = Tickets(2, None, now=Clock((1 << 47) - 1))
     drawn = [tickets.draw() for _ in range(256)]
-    assert drawn[-1] == (1 << 64) - 256 + 2
+    assert drawn[-1] == (1 << 63) - 256 + 2
     with pytest.raises(OverflowError):
         tickets.draw()
 

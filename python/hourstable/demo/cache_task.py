@@ -191,7 +191,7 @@ def main() -> None:
     parser.add_argument("--port", type=int, required=True)
     parser.add_argument("--folder", required=True, help="has logs, the shelf and spans")
     parser.add_argument("--policy", required=True)
-    parser.add_argument("--drift", type=int, default=201, help="in a million")
+    parser.add_argument("--drift", type=int, default=Drift().extra, help="in a million")
     parser.add_argument("--oldest", type=int, help="ticks")
     parser.add_argument("--tickets", choices=["follow", "time"], default="follow")
     parser.add_argument("--work", type=float, default=0.0, help="milliseconds of a request")

@@ -26,12 +26,19 @@ def strike_wrong_day(strike: Strike) -> None:
 
 @kind
 def strike_wrong_rate(strike: Strike) -> None:
-    """The clocks of a host run faster or slower than any drift allows."""
+    """The clocks of a host run faster or slower than any drift allows, until the last fault of them ends."""
     host = strike.any("plane", "task").host
-    before, drift = host.ppm, strike.cluster.scene.drift
+    drift = strike.cluster.scene.drift
     host.set_rate(strike.rng.choice((-drift, -drift // 10, drift // 10, drift)))
+    host.wrong_rates += 1
     strike.tell(f"{host.address} runs at {host.ppm} ppm")
-    strike.lasts(strike.leases(4), lambda: host.set_rate(before))
+
+    def mend() -> None:
+        host.wrong_rates -= 1
+        if not host.wrong_rates:
+            host.set_rate(host.own_rate)
+
+    strike.lasts(strike.leases(4), mend)
 
 
 @kind

@@ -82,7 +82,8 @@ def strike_drain(strike: Strike) -> None:
         tickets = Tickets(255, None, system=Machine(process))
         whole = strike.cluster.scene.is_whole
         desk = HttpDesk(
-            strike.cluster.urls, tickets, SECRET, transport=None if whole else Direct(process)
+            strike.cluster.urls, tickets, SECRET, transport=None if whole else Direct(process),
+            system=Machine(process),
         )
         try:
             await desk.drain(job.name, number)

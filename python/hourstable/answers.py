@@ -1,0 +1,95 @@
+"""What requests to a control plane carry, and how they are answered. Bodies that are messages are those that the
+library writes and reads."""
+
+import json
+import math
+from collections.abc import Callable
+from typing import Any, TypeVar
+
+from aiohttp import web
+
+from hourstable import logs
+from hourstable.jobs import Made, is_number
+from hourstable.metrics import word_of
+from hourstable.table_calls import Malformed
+
+T = TypeVar("T")
+READING = "Hourstable-Reading"
+TASKS, LIVES = range(1, 65), range(1, 1 << 32)
+JSON = {"Content-Type": "application/json"}
+
+
+def job_in(request: web.Request) -> str:
+    return name_in(request.match_info["job"])
+
+
+def name_in(given: object) -> str:
+    """Returns the name of a job. Raises Malformed."""
+    if not isinstance(given, str) or not logs.NAME.fullmatch(given):
+        raise Malformed("the name of a job is that of a folder: 1 to 64 letters, digits, . _ and -")
+    return given
+
+
+def number_in(request: web.Request, name: str, default: int) -> int:
+    text = request.query.get(name, str(default))
+    if not (text.isascii() and text.isdigit() and len(text) <= 20 and int(text) < 1 << 64):
+        raise Malformed(f"{name} is no number of 64 bits")
+    return int(text)
+
+
+async def json_of(request: web.Request) -> dict[str, Any]:
+    try:
+        given = json.loads(await request.read())
+    except (ValueError, RecursionError) as error:
+        raise Malformed("the body is not a JSON text") from error
+    if not isinstance(given, dict):
+        raise Malformed("the body is not an object")
+    return given
+
+
+def member(given: dict[str, Any], name: str, limits: range) -> int:
+    value = given.get(name)
+    if not is_number(value) or value not in limits:
+        raise Malformed(f"{name} is no number from {limits.start} to {limits.stop - 1}")
+    assert isinstance(value, int)
+    return value
+
+
+def asker_in(given: dict[str, Any]) -> tuple[int, int]:
+    """Returns the task and the life that ask for a grant."""
+    return member(given, "task", TASKS), member(given, "life", LIVES)
+
+
+def answer_of(value: object, status: int = 200) -> web.Response:
+    return message_of(logs.COMPACT.encode(value).encode(), status)
+
+
+def message_of(message: bytes, status: int = 200) -> web.Response:
+    return web.Response(body=message, status=status, headers=JSON)
+
+
+def failure(status: int, error: str, after: float | None = None, **members: str) -> web.Response:
+    """Returns the answer of a request that is not done, with the seconds after which to retry."""
+    made = answer_of({"error": error, **members}, status)
+    if after is not None:
+        made.headers["Retry-After"] = str(max(1, math.ceil(after)))
+    return made
+
+
+def refused(made: Made[Any]) -> bytes:
+    """Returns the body of the answer of a call that a table refused."""
+    assert made.refusal is not None
+    why = {"refused": word_of(made.refusal.name), "told": made.refusal.carried}
+    return logs.COMPACT.encode(why).encode()
+
+
+def told(made: Made[T], answer: Callable[[T], web.Response]) -> web.Response:
+    """Returns the answer of a call of a table."""
+    if made.refusal is not None:
+        response = message_of(refused(made), 409)
+    else:
+        assert made.result is not None
+        response = answer(made.result)
+    if made.at is not None:
+        response.headers[READING] = str(made.at)
+    return response

@@ -1,0 +1,111 @@
+"""Which of several control planes is asked, and how often a call is made again.
+
+A caller asks one plane until that fails. It moves on only from the plane that failed, so that calls that fail
+together do not come back to it; and not to a plane that was silent a moment ago, as long as another one answers.
+"""
+
+import asyncio
+from collections.abc import Callable, Iterator
+
+
+class RetryBudget:
+    """How many calls may be made again: a tenth of all calls, `a_second` more each second, and up to `most` at once
+    after a quiet time. `now` returns seconds that never fall.
+
+    Without it each caller would make its calls twice, or more often, as soon as who answers them is overloaded.
+    """
+
+    SHARE = 0.1
+
+    def __init__(
+        self, now: Callable[[], float], most: float = 10.0, a_second: float = 0.0
+    ) -> None:
+        self._now, self._most, self._a_second = now, most, a_second
+        self._left, self._at = most, now()
+
+    def add(self) -> None:
+        """Notes a call that is made for the first time."""
+        self._left = min(self._most, self._left + self.SHARE)
+
+    def take(self) -> bool:
+        """Takes the right to make a call again, and returns whether there was one."""
+        now = self._now()
+        self._left = min(self._most, self._left + (now - self._at) * self._a_second)
+        self._at = now
+        if self._left < 1:
+            return False
+        self._left -= 1
+        return True
+
+    def give_back(self) -> None:
+        """Gives a right back that was taken, as after a call that was then done: where things go well again, nobody
+        waits for the budget."""
+        self._left = min(self._most, self._left + 1)
+
+
+class Planes:
+    """The planes of a caller, by their places in `urls`.
+
+    `now` returns seconds that never fall. A plane that was silent is left alone for `rest` seconds while another one
+    answers, be it that it cannot do the call yet.
+    """
+
+    def __init__(self, urls: list[str], now: Callable[[], float], rest: float) -> None:
+        if not urls:
+            raise ValueError("there is no control plane")
+        self.urls, self.rest = urls, rest
+        self.budget = RetryBudget(now)
+        self._now = now
+        self._at = 0
+        self._silent: dict[int, float] = {}  # planes that gave no answer, and when
+        self._left = asyncio.Event()  # set, and replaced, when a plane is left that was silent
+
+    def tries(self) -> Iterator[int]:
+        """Returns the planes that a call is made at, one after the other until one does it: each at most once, and
+        only the first one if the budget is spent. The caller tells how each try ended."""
+        self.budget.add()
+        tried: set[int] = set()
+        while (at := self._next(tried)) is not None:
+            if tried and not self.budget.take():
+                return
+            tried.add(at)
+            yield at
+
+    def _next(self, tried: set[int]) -> int | None:
+        """Returns the plane to ask, None if there is no other."""
+        left = [it for it in self._round() if it not in tried]
+        if tried and any(it not in self._silent for it in tried):  # one answered, so nobody waits for a silent one
+            left = [it for it in left if not self._rests(it)]
+        return left[0] if left else None
+
+    def _round(self) -> list[int]:
+        count = len(self.urls)
+        return [(self._at + step) % count for step in range(count)]
+
+    def _rests(self, at: int) -> bool:
+        return self._now() - self._silent.get(at, -self.rest) < self.rest
+
+    def answered(self, at: int) -> None:
+        """Notes that a plane did a call."""
+        self._silent.pop(at, None)
+
+    def failed(self, at: int, is_silent: bool) -> None:
+        """Notes that a plane did not do a call, and moves on from it if it is the one that is asked first."""
+        if is_silent:
+            self._silent[at] = self._now()
+        else:
+            self._silent.pop(at, None)
+        if at == self._at:
+            others = self._round()[1:]
+            awake = [it for it in others if not self._rests(it)]
+            if awake or is_silent:
+                self._at = (awake or others or [at])[0]
+            if is_silent and self._at != at:
+                self._left.set()
+                self._left = asyncio.Event()
+
+    async def left(self, at: int) -> None:
+        """Returns when a plane that was asked first has been left because it was silent: who still waits for an
+        answer of it may wait for long."""
+        while self._at == at or at not in self._silent:
+            await self._left.wait()

@@ -1,0 +1,114 @@
+"""A log that may stop while its process goes on, as on a full disk.
+
+Lines that the disk does not take are left out, and so are all that follow, until the process begins anew with what
+the lines are about: a task with another life, a clerk with nothing learnt. The log then has a line that says what is
+missing, which `hourstable-service audit` tells.
+"""
+
+import json
+import logging
+from collections.abc import Callable
+
+from .logs import Log, gap_line
+
+AGAIN = 1.0  # seconds after which a log that stopped is tried again
+Opens = Callable[[], Log]
+
+
+class KeptLog:
+    """A log of `opens`, which returns it open. `count(lines)` is told of lines that are left out, and `now` returns
+    seconds that never fall.
+
+    Raises ValueError if the file of today is of another job. A disk that takes nothing is no error.
+    """
+
+    is_kept = True  # whether lines that are appended are of use to anybody
+
+    def __init__(
+        self, opens: Opens, name: str, log: logging.Logger, count: Callable[[int], object],
+        now: Callable[[], float],
+    ) -> None:
+        self._opens, self._name, self._told = opens, name, log
+        self._count, self._now = count, now
+        self._log: Log | None = None
+        self._tried = now()
+        self._missing = 0
+        self._first = self._last = 0  # tickets of what is missing
+        self._is_ready = False  # whether the disk takes lines again
+        try:
+            self._log = opens()
+        except OSError as why:
+            self._stop(why)
+
+    @property
+    def is_stopped(self) -> bool:
+        """Whether lines are left out."""
+        return self._log is None or self._is_ready
+
+    def append(self, *lines: str) -> None:
+        """Writes lines, or leaves them out."""
+        if self._log is None or self._is_ready:
+            self._miss(lines)
+            return
+        try:
+            self._log.append(*lines)
+        except (OSError, ValueError) as why:
+            self._stop(why)
+            self._miss(lines)
+
+    def is_ready(self) -> bool:
+        """Whether a log that has stopped may go on, which it then does with `go_on`. It looks once in a while."""
+        if self._is_ready or self._now() - self._tried < AGAIN:
+            return self._is_ready
+        self._tried = self._now()
+        try:
+            self._log = self._opens()
+            self._tell_gap()
+        except (OSError, ValueError):
+            self._drop()
+        else:
+            self._is_ready = True
+        return self._is_ready
+
+    def go_on(self) -> None:
+        """Writes lines again, from the next one on."""
+        self._is_ready = False
+        try:
+            self._tell_gap()
+        except (OSError, ValueError) as why:
+            self._stop(why)
+        else:
+            self._told.warning("%s: the log goes on after a gap", self._name)
+
+    def close(self) -> None:
+        """Closes the file, with a line of what is missing if the disk takes it."""
+        try:
+            self._tell_gap()
+        except (OSError, ValueError) as why:
+            self._told.warning("%s: %d lines are missing at the end of the log: %s", self._name, self._missing, why)
+        self._drop()
+
+    def _stop(self, why: Exception) -> None:
+        self._told.error("%s: the log stops, and the service goes on: %s", self._name, why)
+        self._tried = self._now()
+        self._drop()
+
+    def _drop(self) -> None:
+        """Closes the file. What a torn line left is mended when it is opened again."""
+        log, self._log = self._log, None
+        self._is_ready = False
+        if log is not None:
+            log.close()
+
+    def _miss(self, lines: tuple[str, ...]) -> None:
+        tickets = [int(json.loads(line)["ticket"]) for line in lines]
+        self._first = self._first or tickets[0]
+        self._last = tickets[-1]
+        self._missing += len(lines)
+        self._count(len(lines))
+
+    def _tell_gap(self) -> None:
+        """Writes what is missing so far. Raises OSError and ValueError."""
+        if self._missing and self._log is not None:
+            self._log.append(gap_line(self._missing, self._first, self._last))
+            self._missing = self._first = self._last = 0

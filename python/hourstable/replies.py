@@ -1,0 +1,120 @@
+"""What tasks and routers read from the answers of control planes.
+
+Each raises ValueError, LookupError, TypeError or Refused if the answer is none of a plane to the call: a proxy may
+answer, something else may listen, and a body may be torn.
+"""
+
+import json
+from collections.abc import Mapping
+from typing import Any, NamedTuple
+
+from .calls import Answer
+from .leases import policy_of
+from .library import GrantRead, Phase, Table, read_assignment, read_grant
+
+LIVES = 1 << 32
+NUMBERS = 1 << 64
+Members = Mapping[str, Any]
+
+
+class Granted(NamedTuple):
+    """The answer to a call for a lease: the grant, or the word for why the table refused it."""
+
+    answer: Answer
+    grant: GrantRead | None
+    refused: str
+
+
+def check_policy(job: str, members: Members) -> Members:
+    """Returns the members of a policy, which the library accepts. Raises ValueError."""
+    try:
+        Table(job, policy_of(members)).close()
+    except Exception as why:
+        raise ValueError(f"no policy of a job: {members!r}: {type(why).__name__} {why}") from why
+    return members
+
+
+def policy_in(job: str, answer: Answer) -> Members:
+    """Returns the members of the policy that GET /jobs/J tells."""
+    members = answer.value()["policy"]
+    if not isinstance(members, dict):
+        raise ValueError("a policy is no object")
+    return check_policy(job, members)
+
+
+def is_created(answer: Answer) -> bool:
+    """Returns whether PUT /jobs/J found or made the job with the policy that was given."""
+    answer.value()
+    return answer.status != 409
+
+
+def phase_in(answer: Answer) -> Phase | None:
+    """Returns the phase that GET /jobs/J/phase tells, None if it is still the known one."""
+    if answer.status == 204:
+        return None
+    value = answer.value()
+    pending = value["pending"]
+    return Phase(number(value["committed"]), 0 if pending is None else number(pending))
+
+
+def life_in(answer: Answer) -> tuple[int, int]:
+    """Returns the life that POST /jobs/J/tasks/T/life gives, and the one before it."""
+    value = answer.value()
+    if answer.status == 409:
+        raise ValueError(f"no life: {value}")
+    life, last = number(value["life"]), number(value["last"])
+    if not last < life < LIVES:
+        raise ValueError(f"life {life} after {last}")
+    return life, last
+
+
+def granted(job: str, answer: Answer) -> Granted:
+    """Returns what POST /jobs/J/grant answers."""
+    if answer.status == 409:
+        return Granted(answer, None, refusal(answer.value()))
+    if answer.reading is None:
+        raise ValueError("a grant without a reading")
+    return Granted(answer, read_grant(job, answer.body), "")
+
+
+def freed_in(answer: Answer) -> None:
+    """Reads the answer to POST /jobs/J/free."""
+    value = answer.value()
+    if answer.status == 409:
+        refusal(value)
+    else:
+        number(value["freed"])
+
+
+def done(answer: Answer) -> None:
+    """Reads an answer that has no body."""
+    if answer.status != 204:
+        raise ValueError(f"{answer.status} in place of 204")
+
+
+def is_draining(task: int, answer: Answer) -> bool:
+    """Returns whether a task is drained, as GET /jobs/J tells."""
+    return task in answer.value().get("draining", [])
+
+
+def generation_in(job: str, answer: Answer) -> tuple[int, bytes]:
+    """Returns what GET /jobs/J/assignment answers: the generation and the message, or 0 and nothing if there is no
+    later assignment."""
+    if answer.status == 204:
+        return 0, b""
+    return read_assignment(job, answer.body).generation, answer.body
+
+
+def refusal(value: Members) -> str:
+    """Returns the word for why a table refused a call."""
+    word = value["refused"]
+    if not isinstance(word, str):
+        raise ValueError("a refusal is a word")
+    return word
+
+
+def number(value: object) -> int:
+    """Returns a number of 64 bits. Raises ValueError."""
+    if isinstance(value, bool) or not isinstance(value, int) or not 0 <= value < NUMBERS:
+        raise ValueError(f"{json.dumps(value)[:40]} is no number of 64 bits")
+    return value

@@ -1,0 +1,75 @@
+"""A file that grows at its end, into space that is allocated ahead.
+
+The space is allocated beyond the end of the file, so its length is that of what was written, and
+who reads it meets no zeros. A disk that is full refuses the next segment while the last one still
+has room: so it tears no line, and there is room to say that lines are missing.
+"""
+
+import errno
+import os
+from pathlib import Path
+
+from hourstable.system import System
+
+SEGMENT = 1 << 20  # bytes that are allocated at a time
+SPARE = 4096  # bytes that stay free for what is written when no segment is to be had
+NOT_DONE = (errno.EOPNOTSUPP, errno.ENOSYS, errno.EINVAL)  # by some filesystems, as NFS before version 4.2
+
+
+class GrowingFile:
+    """A file to which one process appends. Every method but `close` raises OSError."""
+
+    def __init__(self, system: System, path: Path) -> None:
+        self._system = system
+        self._file = system.open(path, os.O_RDWR | os.O_CREAT | os.O_APPEND | os.O_CLOEXEC, 0o600)
+        self.size = os.fstat(self._file).st_size
+        self._allocated = self.size
+        self._allocates = True
+
+    def read(self, start: int, length: int) -> bytes:
+        """Returns bytes of the file, fewer at its end."""
+        return os.pread(self._file, length, start)
+
+    def append(self, data: bytes) -> None:
+        """Writes bytes at the end, or changes nothing: of what a failed write has left, the file is rid again."""
+        self.reserve(len(data) + SPARE)
+        self.append_spare(data)
+
+    def append_spare(self, data: bytes) -> None:
+        """Writes bytes at the end as `append` does, also into the room that `append` leaves free."""
+        rest = data
+        try:
+            while rest:
+                rest = rest[self._system.write(self._file, rest):]
+        except OSError:
+            self.cut(self.size)
+            raise
+        self.size += len(data)
+
+    def reserve(self, length: int) -> None:
+        """Allocates another segment, unless so many bytes beyond the end are allocated."""
+        if not self._allocates or self.size + length <= self._allocated:
+            return
+        end = self.size + length + SEGMENT
+        try:
+            self._system.allocate(self._file, self.size, end - self.size)
+        except OSError as error:
+            if error.errno not in NOT_DONE:
+                raise
+            self._allocates = False
+        self._allocated = end
+
+    def cut(self, size: int) -> None:
+        """Leaves out what is beyond a size, and gives back what is allocated there."""
+        os.ftruncate(self._file, size)
+        self.size = self._allocated = size
+
+    def close(self) -> None:
+        """Closes the file, and gives back what is allocated beyond its end."""
+        try:
+            if self._allocated > self.size:
+                os.ftruncate(self._file, self.size)
+        except OSError:
+            pass  # it stays allocated
+        finally:
+            self._system.close(self._file)

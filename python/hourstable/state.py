@@ -1,0 +1,33 @@
+"""Where a process keeps its state: the file of its tickets. It stands apart from logs, which may be moved away."""
+
+import fcntl
+import os
+import shutil
+from pathlib import Path
+
+from hourstable.system import make_folder
+
+FOLDER = "STATE_DIRECTORY"  # the variable by which systemd names the folder of a unit's state
+
+
+def state_folder(given: str | os.PathLike[str] | None, logs: str | os.PathLike[str]) -> Path:
+    """Returns the folder of state of a process, and makes it: the one that is given, or else that of systemd, or else
+    the one beside its logs, with the ending `.state`. Raises OSError, which says how to name another one."""
+    beside = Path(logs).absolute()
+    folder = Path(given or os.environ.get(FOLDER) or beside.with_name(f"{beside.name}.state"))
+    try:
+        return make_folder(folder)
+    except OSError as error:
+        why = f"{error.strerror}; name a folder for the state of the process (--state)"
+        raise type(error)(error.errno, why, str(folder)) from error
+
+
+def kept_in(folder: Path, name: str, before: Path) -> Path:
+    """Returns the path of a file of state. If it is not there, and the folder in which versions up to 1.0 kept it has
+    one, that is moved. Raises BlockingIOError if another process uses it, and OSError."""
+    path, old = folder / name, before / name
+    if not path.exists() and old.is_file():
+        with open(old, "rb") as file:
+            fcntl.flock(file, fcntl.LOCK_EX | fcntl.LOCK_NB)
+            shutil.move(old, path)
+    return path

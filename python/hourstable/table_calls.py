@@ -1,0 +1,216 @@
+"""The calls of a table: how each is played on it, what its line of the log says, and what a repeated one returns."""
+
+import json
+from abc import ABC, abstractmethod
+from typing import TYPE_CHECKING, Any, Generic, TypeVar
+
+from hourstable import logs
+from hourstable.library import JobTerm, Table
+
+if TYPE_CHECKING:
+    from hourstable.jobs import Job
+
+T = TypeVar("T")
+MOST_NOTES = 4096  # of which a job remembers the answers
+TERM = "term"  # the key of the calls of assigners
+
+
+class Malformed(Exception):
+    """The body of a call cannot be read."""
+
+
+class Call(ABC, Generic[T]):
+    """A call of a table: its name in logs, and the members of its line. `repeated` asks what earlier
+    calls of the same key did; None if it asks nothing."""
+
+    do: str
+    members: dict[str, object]
+    key: str | None = None
+
+    @abstractmethod
+    def play(self, table: Table, at: int) -> T:
+        """Calls the library. Raises Refused."""
+
+    @abstractmethod
+    def tell(self, result: T) -> str:
+        """Returns the reply of the line."""
+
+    def repeated(self, job: "Job") -> T | None:
+        """Returns the result of an earlier call that this one repeats, None if it repeats none."""
+        return None
+
+    def done(self, job: "Job", result: T) -> None:
+        """Remembers the call, which is stored."""
+
+
+class Grant(Call[bytes]):
+    """A task asks for a lease. Its result is the message of the grant."""
+
+    do = "grant"
+
+    def __init__(self, task: int, life: int) -> None:
+        self.task, self.life = task, life
+        self.members = {"task": task, "life": life}
+
+    def play(self, table: Table, at: int) -> bytes:
+        return table.grant(self.task, self.life, at)
+
+    def tell(self, result: bytes) -> str:
+        return logs.told_grant(value_in(result))
+
+
+class Free(Call[int]):
+    """A task gives leases back by a note. Its result is how many rows were freed."""
+
+    do = "free"
+
+    def __init__(self, note: bytes) -> None:
+        self.note, value = note, value_in(note)
+        self.members = {"note": value}
+        self.key: str = json.dumps(value, sort_keys=True)
+
+    def play(self, table: Table, at: int) -> int:
+        return table.free(self.note, at)
+
+    def tell(self, result: int) -> str:
+        return f"freed {result}"
+
+    def repeated(self, job: "Job") -> int | None:
+        return job.notes.get(self.key)
+
+    def done(self, job: "Job", result: int) -> None:
+        job.notes[self.key] = result
+        while len(job.notes) > MOST_NOTES:
+            job.notes.popitem(last=False)
+
+
+class OfTerm(Call[JobTerm]):
+    """A call that begins or prolongs a term of the job lease. Its result is the term."""
+
+    key = TERM
+    told: str
+
+    def tell(self, result: JobTerm) -> str:
+        return f"{self.told} {result.number} until {result.until}"
+
+    def done(self, job: "Job", result: JobTerm) -> None:
+        job.term = term_of(result)
+
+
+class Take(OfTerm):
+    """An assigner takes the job lease."""
+
+    do, told = "take", "term"
+
+    def __init__(self, assigner: int) -> None:
+        self.assigner = assigner
+        self.members = {"assigner": assigner}
+
+    def play(self, table: Table, at: int) -> JobTerm:
+        return table.take(self.assigner, at)
+
+
+class Renew(OfTerm):
+    """The holder of a term renews it."""
+
+    do, told = "renew", "renewed"
+
+    def __init__(self, term: int) -> None:
+        self.term = term
+        self.members = {"term": term}
+
+    def play(self, table: Table, at: int) -> JobTerm:
+        return table.renew(self.term, at)
+
+
+class Propose(Call[int]):
+    """The holder of a term proposes an assignment. Its result is the generation."""
+
+    do = "propose"
+    key = TERM
+
+    def __init__(self, term: int, assignment: bytes) -> None:
+        self.term, self.assignment = term, assignment
+        self.value = numbers_of(value_in(assignment))
+        self.members = {"term": term, **self.value}
+
+    def play(self, table: Table, at: int) -> int:
+        table.propose(self.term, self.assignment, at)
+        generation: int = self.value["generation"]
+        return generation
+
+    def tell(self, result: int) -> str:
+        return f"proposed {result}"
+
+    def repeated(self, job: "Job") -> int | None:
+        kept = job.kept()
+        if not kept["pending"] or numbers_of(kept["pending"]) != self.value:
+            return None
+        generation: int = self.value["generation"]
+        return generation if int(kept["term"]["number"]) == self.term else None
+
+
+class Commit(Call[int]):
+    """The holder of a term commits what is proposed. Its result is the generation.
+
+    A call with the generation repeats an earlier one if this generation is committed and nothing
+    is proposed; one without it, if the last commit of this process was of the same term.
+    """
+
+    do = "commit"
+    key = TERM
+
+    def __init__(self, term: int, generation: int | None) -> None:
+        self.term, self.generation = term, generation
+        self.members = {"term": term}
+
+    def play(self, table: Table, at: int) -> int:
+        return table.commit(self.term, at)
+
+    def tell(self, result: int) -> str:
+        return f"committed {result}"
+
+    def repeated(self, job: "Job") -> int | None:
+        committed, proposed, _ = job.view
+        if proposed or job.term is None or job.term["number"] != self.term:
+            return None
+        if self.generation is None:
+            return committed if job.committed_by == (self.term, committed) else None
+        return committed if committed and self.generation == committed else None
+
+    def done(self, job: "Job", result: int) -> None:
+        job.committed_by = (self.term, result)
+
+
+def value_in(message: bytes) -> dict[str, Any]:
+    """Returns the value of a message. Raises Malformed if it has none; the library checks the
+    rest."""
+    try:
+        value = json.loads(message)["value"]
+    except (ValueError, KeyError, TypeError, RecursionError) as error:
+        raise Malformed("the body is not a message") from error
+    if not isinstance(value, dict):
+        raise Malformed("the body is not a message")
+    return value
+
+
+def numbers_of(assignment: dict[str, Any]) -> dict[str, Any]:
+    """Returns an assignment with numbers, which a message may have as the text of their digits.
+    Raises Malformed."""
+    try:
+        slices = [[int(start), [int(owner) for owner in owners]]
+                  for start, owners in assignment["slices"]]
+        return {"generation": int(assignment["generation"]), "slices": slices}
+    except (KeyError, TypeError, ValueError, OverflowError) as error:  # 1e999 is no whole number
+        raise Malformed("the body is not an assignment") from error
+
+
+def term_of(term: JobTerm) -> dict[str, int]:
+    """Returns the members of a term of the job lease."""
+    return {"number": term.number, "assigner": term.assigner, "until": term.until}
+
+
+def term_in(kept: bytes) -> dict[str, int] | None:
+    """Returns the last term of the job lease in kept values."""
+    term = json.loads(kept)["value"]["term"]
+    return {name: int(number) for name, number in term.items()} if term else None
