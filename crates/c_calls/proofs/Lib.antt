@@ -4,3 +4,5 @@ mod Phases
 mod TaskNumbers
 mod Adding
 pub mod TaskClocks
+mod SliceLists
+mod Gathering

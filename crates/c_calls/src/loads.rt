@@ -1,9 +1,8 @@
 //! The calls of a load book.
 
-ghost use Rattle.std.specs.Prelude.{◌≡◌, ◌≤◌, ◌-◌, ◌∷◌, [], IfOk, None, length, sum};
+ghost use Rattle.std.specs.Prelude.{◌≡◌, ◌≤◌, ◌∷◌, [], IfOk, None, length};
 ghost use Rattle.machines.specs.Refusals.{first_of};
 ghost use Rattle.load_ledger.specs.Books.{gather_checks};
-ghost use Rattle.load_ledger.specs.declared.share.TheConstants.{MOST_TOTAL};
 ghost use Rattle.c_calls.specs.Arguments.{task_of};
 ghost use Rattle.c_calls.specs.Outputs.{output};
 ghost use Rattle.c_calls.specs.Gathers.{AreRecordsGathered, IsGatheredUnless, IsShareGathered, IsTotalTold};
@@ -16,8 +15,8 @@ use crate::answer::Answer;
 use crate::arguments::task_of;
 use crate::output::give;
 use crate::unread::unread_answer;
-use assignment::{Assignment, TASKS, TaskId};
-use load_ledger::{LoadBook, LoadError, LoadShare, MOST_TOTAL};
+use assignment::Assignment;
+use load_ledger::{LoadBook, LoadError, LoadShare};
 use machines::Listed;
 pub use record_numbers::RecordNumbers;
 use std::alloc::{AllocError, Global};
@@ -29,17 +28,6 @@ fn one_share(alloc: Global, share: LoadShare) -> Result<Vec<LoadShare>, AllocErr
     let mut shares = Vec::new(alloc);
     shares.push(share)?;
     Ok(shares)
-}
-
-// Returns how much the totals of a book may still grow.
-fn left_in(book: &LoadBook) -> u64
-    ensures { result ≡ MOST_TOTAL - sum book.now }
-{
-    let mut left = MOST_TOTAL;
-    for number in 1..=TASKS {
-        left = left.saturating_sub(book.total(TaskId::new(number).unwrap()));
-    }
-    left
 }
 
 // Gathers a share that is not refused over an assignment, and writes the load of each slice.
@@ -81,7 +69,7 @@ fn gather_over(
     if let Some(answer) = no_share(task, records) {
         return answer;
     }
-    if are_above(left_in(book), records) {
+    if are_above(book.left(), records) {
         return Answer::Load(LoadError::TotalRange);
     }
     let slices = assignment.slices().len();

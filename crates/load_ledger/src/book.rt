@@ -88,7 +88,7 @@ impl LoadBook {
     pub fn gather_refusal(&self, shares: &[LoadShare]) -> Option<LoadError>
         ensures { result ≡ first_of (gather_checks shares.now self.now) }
     {
-        let mut left = MOST_TOTAL - self.totals.iter().sum::<u64>();
+        let mut left = self.left();
         for share in shares {
             if left < share.total() {
                 return Some(LoadError::TotalRange);
@@ -96,6 +96,13 @@ impl LoadBook {
             left -= share.total();
         }
         None
+    }
+
+    /// Returns how much the totals of all tasks may still grow: they add up to at most [`MOST_TOTAL`].
+    pub fn left(&self) -> u64
+        ensures { result + sum self.now ≡ MOST_TOTAL }
+    {
+        MOST_TOTAL - self.totals.iter().sum::<u64>()
     }
 
     /// Returns the total weight of the work that a task has done.

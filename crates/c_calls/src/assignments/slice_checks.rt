@@ -1,10 +1,10 @@
 //! Why slices that numbers say make no assignment. The checks take no memory.
 
-ghost use Rattle.std.specs.Prelude.{◌≡◌, ◌==◌, nat_lt, nat_le, not, length};
-ghost use Rattle.std.specs.List.{list_any};
+ghost use Rattle.std.specs.Prelude.{◌≡◌, ◌==◌, drop, nat_lt, nat_le, not, length};
+ghost use Rattle.std.specs.List.{list_all, list_any, zip};
 ghost use Rattle.slice_ranges.specs.declared.key.TheConstants.{KEYS};
 ghost use Rattle.assignment.specs.declared.slice.TheConstants.{MOST_OWNERS};
-ghost use Rattle.assignment.specs.Slices.{refusal_of, first_starts_at, has_twice, is_rising, is_task};
+ghost use Rattle.assignment.specs.Slices.{refusal_of, first_starts_at, has_twice, is_task};
 ghost use Rattle.c_calls.specs.Assignments.{slice_of, slices_of};
 
 use super::SliceNumbers;
@@ -14,6 +14,7 @@ use assignment::{AssignmentError, MOST_OWNERS, MOST_SLICES};
 use slice_ranges::KEYS;
 
 /// Returns why the slices that the numbers say do not form an assignment, or `None` if they do.
+#[tactic(auto, using(crate::proofs::SliceLists::refusal_by))]
 pub fn slices_refusal(slices: &[SliceNumbers]) -> Option<AssignmentError>
     ensures { result ≡ refusal_of (slices_of slices.now) }
 {
@@ -57,32 +58,32 @@ fn starts_at_zero(slices: &[SliceNumbers]) -> bool
 }
 
 fn is_rising(slices: &[SliceNumbers]) -> bool
-    ensures { result ≡ is_rising (slices_of slices.now) }
+    ensures { result ≡ list_all (λ p. nat_lt p.0.start p.1.start) (zip slices.now (drop 1 slices.now)) }
 {
     let next = slices.iter().skip(1);
     slices.iter().zip(next).all(|(a, b)| a.start < b.start)
 }
 
 fn any_starts_past_end(slices: &[SliceNumbers]) -> bool
-    ensures { result ≡ list_any (λ s. nat_le KEYS s.start) (slices_of slices.now) }
+    ensures { result ≡ list_any (λ n. nat_le KEYS (slice_of n).start) slices.now }
 {
     slices.iter().any(|slice| slice.start >= KEYS)
 }
 
 fn any_has_no_owner(slices: &[SliceNumbers]) -> bool
-    ensures { result ≡ list_any (λ s. length s.owners == 0) (slices_of slices.now) }
+    ensures { result ≡ list_any (λ n. length (slice_of n).owners == 0) slices.now }
 {
-    slices.iter().any(|slice| slice.count == 0)
+    slices.iter().any(|slice| owner_count(slice) == 0)
 }
 
 fn any_has_many_owners(slices: &[SliceNumbers]) -> bool
-    ensures { result ≡ list_any (λ s. nat_lt MOST_OWNERS (length s.owners)) (slices_of slices.now) }
+    ensures { result ≡ list_any (λ n. nat_lt MOST_OWNERS (length (slice_of n).owners)) slices.now }
 {
-    slices.iter().any(|slice| slice.count > MOST_OWNERS as u64)
+    slices.iter().any(|slice| owner_count(slice) > MOST_OWNERS)
 }
 
 fn any_has_owner_twice(slices: &[SliceNumbers]) -> bool
-    ensures { result ≡ list_any (λ s. has_twice s.owners) (slices_of slices.now) }
+    ensures { result ≡ list_any (λ n. has_twice (slice_of n).owners) slices.now }
 {
     slices
         .iter()
@@ -90,22 +91,29 @@ fn any_has_owner_twice(slices: &[SliceNumbers]) -> bool
 }
 
 fn any_has_stranger(slices: &[SliceNumbers]) -> bool
-    ensures { result ≡ list_any (λ s. list_any (λ o. not (is_task o)) s.owners) (slices_of slices.now) }
+    ensures { result ≡ list_any (λ n. list_any (λ o. not (is_task o)) (slice_of n).owners) slices.now }
 {
     slices
         .iter()
         .any(|slice| has_stranger(owners_of(slice).as_slice()))
 }
 
+// Returns how many owners the slice has that the numbers say: one too many, where there are too many.
+fn owner_count(slice: &SliceNumbers) -> usize
+    ensures { result ≡ length (slice_of slice.now).owners }
+{
+    owners_of(slice).len()
+}
+
 // Returns the owners of the slice that the numbers say.
 fn owners_of(slice: &SliceNumbers) -> ArrayVec<u64, 6>
     ensures { result.items ≡ (slice_of slice.now).owners }
 {
+    let count = slice.count.min(MOST_OWNERS as u64) as usize;
+    let tasks = &slice.tasks[..count];
     let mut owners = ArrayVec::<u64, 6>::new();
-    for (place, task) in slice.tasks.iter().enumerate() {
-        if (place as u64) < slice.count {
-            owners.push(*task);
-        }
+    for task in tasks {
+        owners.push(*task);
     }
     if slice.count > MOST_OWNERS as u64 {
         owners.push(0);
