@@ -1,7 +1,7 @@
 //! Evidence that clocks are not timely.
 
 ghost use Rattle.c_calls.specs.Jobs.{job_of};
-ghost use Rattle.c_calls.specs.ClockEvidence.{IsWeighedBy, IsWeighedFor};
+ghost use Rattle.c_calls.specs.ClockEvidence.{IsWeighedBy, IsWeighedFor, IsWeight};
 
 use crate::answer::Answer;
 use crate::job::job_of;
@@ -35,6 +35,18 @@ pub fn evidence(
     }
 }
 
+/// Returns 1 if the grant shows, at the reading `at` of a task's clock, that clocks are not timely,
+/// and 0 if it does not.
+pub fn weight_of(grant: &Grant, at: u64, policy: Policy) -> u32
+    ensures { IsWeight policy grant.now at result }
+{
+    if clock_evidence(grant, at, policy) {
+        1
+    } else {
+        0
+    }
+}
+
 fn weigh(
     alloc: Global,
     job: &JobName,
@@ -47,11 +59,7 @@ fn weigh(
 {
     match decode::<Grant>(alloc, job, grant) {
         Ok(grant) => {
-            *out = if clock_evidence(&grant, at, policy) {
-                1
-            } else {
-                0
-            };
+            *out = weight_of(&grant, at, policy);
             Answer::Done
         }
         Err(why) => unread_answer(why),

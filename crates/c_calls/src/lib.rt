@@ -31,7 +31,7 @@ mod unread;
 
 pub use answer::Answer;
 pub use assignments::{SliceNumbers, new_assignment, read_assignment, read_slice};
-pub use clock_evidence::evidence;
+pub use clock_evidence::{evidence, weight_of};
 pub use details::{AnswerDetails, LeaseDetails};
 pub use grant_numbers::{GrantNumbers, read_grant};
 pub use job::job_of;

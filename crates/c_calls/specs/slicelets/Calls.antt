@@ -20,10 +20,13 @@ opened_slicelet task = if is_task task then Some (opening task) else None
 abbrev pub IsStarted : ℕ → ℕ → SliceletState → SliceletState → Answer → Type 0
 IsStarted life at old new answer = IsStepped (λ _. Done) Slicelet (start_step old life at) old new answer
 
--- the grant that was read was heard and its lease is told, or why it was not heard
+-- the grant was heard and its lease is told, or why it was not heard
+abbrev pub IsHeardGrant : Grant → ℕ → SliceletState → SliceletState → Answer → Type 0
+IsHeardGrant grant at old new answer = IsTaken (λ _. Leased (details_of grant)) Slicelet (hear_step old grant at) old new answer
+
+-- the grant that was read
 abbrev pub IsHeard : ℕ → SliceletState → SliceletState → Answer → Result Grant DecodeError → Type 0
-IsHeard at old new answer =
-    OnRead (new ≡ old) answer (λ grant. IsTaken (λ _. Leased (details_of grant)) Slicelet (hear_step old grant at) old new answer)
+IsHeard at old new answer = OnRead (new ≡ old) answer (λ grant. IsHeardGrant grant at old new answer)
 
 -- the bytes were read as a grant of the job
 abbrev pub IsGrantHeard : List ℕ → List ℕ → ℕ → SliceletState → SliceletState → Answer → Type 0

@@ -14,7 +14,7 @@ ghost use Rattle.c_calls.specs.slicelets.KeyHandles.{IsCheckAnswered, check_answ
 ghost use Rattle.c_calls.specs.slicelets.Keys.{rule_at, rule_at_after, rule_for, rule_for_after, taken_at, taken_by};
 ghost use Rattle.c_calls.specs.slicelets.Leases.{IsServed};
 ghost use Rattle.c_calls.specs.slicelets.SliceKeys.{IsServedAfter, IsServedAt, covering_at, hold_numbers_at};
-ghost use Rattle.c_calls.specs.slicelets.Calls.{IsGrantHeard, IsStarted, opened_slicelet};
+ghost use Rattle.c_calls.specs.slicelets.Calls.{IsGrantHeard, IsHeardGrant, IsStarted, opened_slicelet};
 
 use super::handle_numbers::HandleNumbers;
 use super::heard::heard_answer;
@@ -49,14 +49,21 @@ pub fn start(slicelet: &mut Slicelet, life: u32, at: u64) -> Answer
 /// Decodes a grant from its message, which is one of the job, and hears it.
 ///
 /// Returns the lease that the task now holds of its kind, or why the grant was not heard.
-#[tactic(auto, using(crate::proofs::Taken::taken))]
 pub fn hear(alloc: Global, job: &JobName, slicelet: &mut Slicelet, grant: &[u8], at: u64) -> Answer
     ensures { IsGrantHeard job.now grant.now at slicelet.old slicelet.new result }
 {
     match decode::<Grant>(alloc, job, grant) {
-        Ok(grant) => heard_answer(&grant, slicelet.hear(&grant, at)),
+        Ok(grant) => hear_grant(slicelet, &grant, at),
         Err(why) => unread_answer(why),
     }
+}
+
+/// Hears a grant that was decoded, as [`hear`] does.
+#[tactic(auto, using(crate::proofs::Taken::taken))]
+pub fn hear_grant(slicelet: &mut Slicelet, grant: &Grant, at: u64) -> Answer
+    ensures { IsHeardGrant grant.now at slicelet.old slicelet.new result }
+{
+    heard_answer(grant, slicelet.hear(grant, at))
 }
 
 /// Returns the lease under which the task may serve a key, or why it may not.
