@@ -357,7 +357,8 @@ enum hs_call {
     HS_CALL_CHECK = 16,   /* hs_slicelet_check */
     HS_CALL_LEARN = 17,   /* hs_clerk_learn */
     HS_CALL_LOOK = 18,    /* hs_clerk_look, hs_clerk_look_at */
-    HS_CALL_FORGET = 19   /* hs_clerk_forget */
+    HS_CALL_FORGET = 19,  /* hs_clerk_forget */
+    HS_CALL_SAMPLE = 20   /* hs_task_clock_sample */
 };
 
 /* Numbers that a code comes with. A call sets just the fields that its code names, unless its comment
@@ -505,11 +506,11 @@ struct hs_logged_call {
     uint64_t ticket;             /* the place of the call among all calls of the job (docs/AUDIT.md) */
     uint32_t call;               /* which call it was, an hs_call */
     int32_t code;                /* what it returned */
-    uint64_t task;               /* each call of a slicelet, and HS_CALL_GRANT */
+    uint64_t task;               /* each call of a slicelet, HS_CALL_GRANT, and HS_CALL_SAMPLE */
     uint64_t clerk;              /* each call of a clerk: its number in the job, from 1 */
     uint64_t assigner;           /* HS_CALL_TAKE */
     uint64_t term;               /* HS_CALL_RENEW, _PROPOSE, _COMMIT: the number that was passed */
-    uint64_t at;                 /* each call that is passed a reading */
+    uint64_t at;                 /* each call that is passed a reading; HS_CALL_SAMPLE: `now` */
     uint64_t slice_key;          /* HS_CALL_SERVE, _HOLD, _LOOK: hs_slice_key of the key */
     uint32_t life;               /* HS_CALL_GRANT, _START, _OPEN; 0 for hs_slicelet_open */
     uint32_t kind;               /* HS_CALL_RELEASE: an hs_kind */
@@ -519,6 +520,8 @@ struct hs_logged_call {
     struct hs_phase phase;       /* HS_CALL_PHASE: what was written */
     struct hs_key_handle handle; /* HS_CALL_CHECK: what was passed; HS_CALL_HOLD: what was written */
     struct hs_owners owners;     /* HS_CALL_LOOK: what was written */
+    uint64_t sent;               /* HS_CALL_SAMPLE: what was passed */
+    uint64_t reading;            /* HS_CALL_SAMPLE: what was passed */
 };
 
 /* A version of the library: major.minor.patch. */

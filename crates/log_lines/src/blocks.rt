@@ -71,6 +71,8 @@ fn block_line(
             count: 0,
             tasks: [0; MOST_OWNERS],
         },
+        sent: 0,
+        reading: 0,
     }
 }
 
