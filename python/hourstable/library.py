@@ -45,7 +45,7 @@ SCRIPT_WORDS = {"OLD_GENERATION": "old"}  # if a script has another word than th
 ACTIONS = {1: "take", 2: "renew", 3: "commit", 4: "propose", 5: "rest"}
 CALLS = {word: number for number, word in enumerate((
     "take renew propose commit grant free lose phase restore open start hear release serve hold check"
-    " learn look forget"
+    " learn look forget sample"
 ).split(), 1)}  # the calls of which a line of a log may be
 TASK_ACTIONS = ("start", "ask guard", "ask bridge", "give up guard", "give up bridge", "rest")
 
@@ -220,7 +220,7 @@ class LoggedCall(ctypes.Structure):
         ("ticket", ctypes.c_uint64), ("call", ctypes.c_uint32), ("code", ctypes.c_int32),
         *fields("task clerk assigner term at slice_key"), *fields("life kind", ctypes.c_uint32),
         ("count", ctypes.c_uint64), ("told", Told), ("job_term", JobTerm), ("phase", Phase),
-        ("handle", KeyHandle), ("owners", Owners),
+        ("handle", KeyHandle), ("owners", Owners), *fields("sent reading"),
     ]
     ticket: int
     call: int
@@ -239,6 +239,8 @@ class LoggedCall(ctypes.Structure):
     phase: Phase
     handle: KeyHandle
     owners: Owners
+    sent: int
+    reading: int
 
 
 class LoadRecord(Numbers):
