@@ -350,7 +350,7 @@ enum hs_call {
     HS_CALL_RESTORE = 9,  /* hs_table_restore */
     HS_CALL_OPEN = 10,    /* hs_slicelet_open, hs_slicelet_resume */
     HS_CALL_START = 11,   /* hs_slicelet_start */
-    HS_CALL_HEAR = 12,    /* hs_slicelet_hear */
+    HS_CALL_HEAR = 12,    /* hs_slicelet_hear, hs_slicelet_receive */
     HS_CALL_RELEASE = 13, /* hs_slicelet_release */
     HS_CALL_SERVE = 14,   /* hs_slicelet_serve, hs_slicelet_serve_at */
     HS_CALL_HOLD = 15,    /* hs_slicelet_hold, hs_slicelet_hold_at */
@@ -390,6 +390,15 @@ struct hs_block {
     uint64_t at;                 /* the task's reading at which the call was made */
     struct hs_key_handle handle; /* what hs_slicelet_enter wrote, and hs_slicelet_leave checks */
     struct hs_told told;         /* what hs_slicelet_enter told */
+};
+
+/* A grant that a task received, for hs_slicelet_receive. The caller sets `ticket` before the call; the call
+ * writes the other members. */
+struct hs_receipt {
+    uint64_t ticket;     /* the place of the call among all calls of the job (docs/AUDIT.md) */
+    uint64_t at;         /* the task's reading at which the call was made */
+    struct hs_told told; /* what hs_slicelet_hear told of the grant */
+    uint32_t evidence;   /* 1 if the grant shows that clocks are not timely, and was not heard; else 0 */
 };
 
 /* A lease that a task holds. */
@@ -597,6 +606,21 @@ int32_t hs_slicelet_start(struct hs_place *place, uint32_t life, uint64_t at);
  * HS_HISTORY_FULL, HS_NO_MEMORY. */
 int32_t hs_slicelet_hear(struct hs_place *place, const uint8_t *grant, size_t grant_len, uint64_t at,
                          struct hs_told *told);
+
+/* Receives a grant, given as its message: hs_task_clock_read at the local reading `now`,
+ * hs_clock_evidence and hs_slicelet_hear at the value, and the line of the hearing, as hs_log_line writes
+ * it for HS_CALL_HEAR with receipt->ticket, in one call, which decodes the message once. Returns the code
+ * of hs_slicelet_hear, also if it is not 0, and writes receipt->at and ->told, and 0 to ->evidence. If the
+ * grant shows that clocks are not timely, nothing is heard and no line is written: returns HS_DONE, and
+ * writes receipt->at, 1 to ->evidence, and 0 to *needed. If `out_len` is 0, no line is written, and *needed
+ * is 0. Draw the ticket before the call. HS_WRONG_FORM if `per` of the clock is 0, then the codes of
+ * hs_task_clock_read, HS_WRONG_FORM if a number of the policy is outside its limits, message codes, then
+ * those of hs_slicelet_hear; but HS_NO_ROOM or HS_NO_MEMORY may come in place of the last ones if a line is
+ * wanted. With a negative code, and with those of hs_task_clock_read, no call was made and there is no
+ * line: the slicelet, the clock and the receipt are unchanged. The clock and the place are called alone. */
+int32_t hs_slicelet_receive(struct hs_place *place, struct hs_task_clock *clock, uint64_t now,
+                            const struct hs_policy *policy, const uint8_t *grant, size_t grant_len,
+                            struct hs_receipt *receipt, uint8_t *out, size_t out_len, size_t *needed);
 
 /* Gives up the lease of a kind, which may have ended, and writes the message of its note, for the
  * table. HS_WRONG_FORM, HS_NOT_STARTED, HS_CLOCK_BACK, HS_NOTHING_HELD, HS_HISTORY_FULL, then

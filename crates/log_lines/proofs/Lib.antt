@@ -3,4 +3,5 @@ pub mod ReadBack
 pub mod Written
 pub mod MessageReads
 pub mod Giving
+pub mod Receiving
 pub mod Entering

@@ -32,8 +32,8 @@ pub struct BlockNumbers {
     pub told: AnswerDetails,
 }
 
-// Returns the numbers of the line of a call of a slicelet.
-fn block_line(
+/// Returns the numbers of the line of a call of a slicelet.
+pub fn block_line(
     call: u32,
     code: i32,
     task: TaskId,
