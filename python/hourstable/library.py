@@ -243,6 +243,17 @@ class LoggedCall(ctypes.Structure):
     reading: int
 
 
+class Receipt(ctypes.Structure):
+    """A grant that a task received, as hs_slicelet_receive of the header writes it. `evidence` is 1 if
+    the grant shows that clocks are not timely, and was not heard."""
+
+    _fields_ = [*fields("ticket at"), ("told", Told), ("evidence", ctypes.c_uint32)]
+    ticket: int
+    at: int
+    told: Told
+    evidence: int
+
+
 class LoadRecord(Numbers):
     _fields_ = fields("slice_key weight")
     slice_key: int
@@ -391,6 +402,7 @@ DECLARED: dict[str, list[CType]] = {
     "slicelet_calls_left": [P(Place), P(ctypes.c_uint64)],
     "slicelet_start": [P(Place), U32, U64],
     "slicelet_hear": [P(Place), *BYTES, U64, P(Told)],
+    "slicelet_receive": [P(Place), P(TaskClock), U64, P(Policy), *BYTES, P(Receipt), *OUT],
     "slicelet_release": [P(Place), U32, U64, *OUT],
     "slicelet_serve": [P(Place), *BYTES, U64, P(Told)],
     "slicelet_hold": [P(Place), *BYTES, U64, P(KeyHandle), P(Told)],
