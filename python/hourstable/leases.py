@@ -14,7 +14,7 @@ from .library import (
     CALLS, KeyHandle, LoggedCall, Phase, Policy, Refused, Served, Slicelet, TaskClock,
     clock_evidence, log_line,
 )
-from .logs import Log, line_of, value_of
+from .logs import Log, value_of
 from .ranges import Ranges, minus, ranges_of, union
 from .tickets import Tickets
 
@@ -82,8 +82,9 @@ class Leases:
         """Takes an answer of the table to a request that was sent at the local reading `sent`."""
         now = self.local_clock()
         self.clock.sample(sent, reading, now)
-        members = {"task": self.task, "sent": sent, "reading": reading, "now": now}
-        self._log.append(line_of(self._tickets.draw(), "sample", "sampled", **members))
+        taken = LoggedCall(self._tickets.draw(), CALLS["sample"], task=self.task, at=now)
+        taken.sent, taken.reading = sent, reading
+        self._log.append(log_line(self.job, taken))
 
     def is_sampled(self) -> bool:
         """Whether the clock has heard an answer of the table."""
