@@ -350,14 +350,15 @@ enum hs_call {
     HS_CALL_RESTORE = 9,  /* hs_table_restore */
     HS_CALL_OPEN = 10,    /* hs_slicelet_open, hs_slicelet_resume */
     HS_CALL_START = 11,   /* hs_slicelet_start */
-    HS_CALL_HEAR = 12,    /* hs_slicelet_hear */
+    HS_CALL_HEAR = 12,    /* hs_slicelet_hear, hs_slicelet_receive */
     HS_CALL_RELEASE = 13, /* hs_slicelet_release */
     HS_CALL_SERVE = 14,   /* hs_slicelet_serve, hs_slicelet_serve_at */
     HS_CALL_HOLD = 15,    /* hs_slicelet_hold, hs_slicelet_hold_at */
     HS_CALL_CHECK = 16,   /* hs_slicelet_check */
     HS_CALL_LEARN = 17,   /* hs_clerk_learn */
     HS_CALL_LOOK = 18,    /* hs_clerk_look, hs_clerk_look_at */
-    HS_CALL_FORGET = 19   /* hs_clerk_forget */
+    HS_CALL_FORGET = 19,  /* hs_clerk_forget */
+    HS_CALL_SAMPLE = 20   /* hs_task_clock_sample */
 };
 
 /* Numbers that a code comes with. A call sets just the fields that its code names, unless its comment
@@ -389,6 +390,15 @@ struct hs_block {
     uint64_t at;                 /* the task's reading at which the call was made */
     struct hs_key_handle handle; /* what hs_slicelet_enter wrote, and hs_slicelet_leave checks */
     struct hs_told told;         /* what hs_slicelet_enter told */
+};
+
+/* A grant that a task received, for hs_slicelet_receive. The caller sets `ticket` before the call; the call
+ * writes the other members. */
+struct hs_receipt {
+    uint64_t ticket;     /* the place of the call among all calls of the job (docs/AUDIT.md) */
+    uint64_t at;         /* the task's reading at which the call was made */
+    struct hs_told told; /* what hs_slicelet_hear told of the grant */
+    uint32_t evidence;   /* 1 if the grant shows that clocks are not timely, and was not heard; else 0 */
 };
 
 /* A lease that a task holds. */
@@ -505,11 +515,11 @@ struct hs_logged_call {
     uint64_t ticket;             /* the place of the call among all calls of the job (docs/AUDIT.md) */
     uint32_t call;               /* which call it was, an hs_call */
     int32_t code;                /* what it returned */
-    uint64_t task;               /* each call of a slicelet, and HS_CALL_GRANT */
+    uint64_t task;               /* each call of a slicelet, HS_CALL_GRANT, and HS_CALL_SAMPLE */
     uint64_t clerk;              /* each call of a clerk: its number in the job, from 1 */
     uint64_t assigner;           /* HS_CALL_TAKE */
     uint64_t term;               /* HS_CALL_RENEW, _PROPOSE, _COMMIT: the number that was passed */
-    uint64_t at;                 /* each call that is passed a reading */
+    uint64_t at;                 /* each call that is passed a reading; HS_CALL_SAMPLE: `now` */
     uint64_t slice_key;          /* HS_CALL_SERVE, _HOLD, _LOOK: hs_slice_key of the key */
     uint32_t life;               /* HS_CALL_GRANT, _START, _OPEN; 0 for hs_slicelet_open */
     uint32_t kind;               /* HS_CALL_RELEASE: an hs_kind */
@@ -519,6 +529,8 @@ struct hs_logged_call {
     struct hs_phase phase;       /* HS_CALL_PHASE: what was written */
     struct hs_key_handle handle; /* HS_CALL_CHECK: what was passed; HS_CALL_HOLD: what was written */
     struct hs_owners owners;     /* HS_CALL_LOOK: what was written */
+    uint64_t sent;               /* HS_CALL_SAMPLE: what was passed */
+    uint64_t reading;            /* HS_CALL_SAMPLE: what was passed */
 };
 
 /* A version of the library: major.minor.patch. */
@@ -594,6 +606,21 @@ int32_t hs_slicelet_start(struct hs_place *place, uint32_t life, uint64_t at);
  * HS_HISTORY_FULL, HS_NO_MEMORY. */
 int32_t hs_slicelet_hear(struct hs_place *place, const uint8_t *grant, size_t grant_len, uint64_t at,
                          struct hs_told *told);
+
+/* Receives a grant, given as its message: hs_task_clock_read at the local reading `now`,
+ * hs_clock_evidence and hs_slicelet_hear at the value, and the line of the hearing, as hs_log_line writes
+ * it for HS_CALL_HEAR with receipt->ticket, in one call, which decodes the message once. Returns the code
+ * of hs_slicelet_hear, also if it is not 0, and writes receipt->at and ->told, and 0 to ->evidence. If the
+ * grant shows that clocks are not timely, nothing is heard and no line is written: returns HS_DONE, and
+ * writes receipt->at, 1 to ->evidence, and 0 to *needed. If `out_len` is 0, no line is written, and *needed
+ * is 0. Draw the ticket before the call. HS_WRONG_FORM if `per` of the clock is 0, then the codes of
+ * hs_task_clock_read, HS_WRONG_FORM if a number of the policy is outside its limits, message codes, then
+ * those of hs_slicelet_hear; but HS_NO_ROOM or HS_NO_MEMORY may come in place of the last ones if a line is
+ * wanted. With a negative code, and with those of hs_task_clock_read, no call was made and there is no
+ * line: the slicelet, the clock and the receipt are unchanged. The clock and the place are called alone. */
+int32_t hs_slicelet_receive(struct hs_place *place, struct hs_task_clock *clock, uint64_t now,
+                            const struct hs_policy *policy, const uint8_t *grant, size_t grant_len,
+                            struct hs_receipt *receipt, uint8_t *out, size_t out_len, size_t *needed);
 
 /* Gives up the lease of a kind, which may have ended, and writes the message of its note, for the
  * table. HS_WRONG_FORM, HS_NOT_STARTED, HS_CLOCK_BACK, HS_NOTHING_HELD, HS_HISTORY_FULL, then

@@ -15,7 +15,7 @@ from .library import (
     CALLS, KeyHandle, LoggedCall, Phase, Policy, Refused, Served, Slicelet, TaskClock,
     clock_evidence, log_line,
 )
-from .logs import NoLog, line_of, value_of
+from .logs import NoLog, value_of
 from .ranges import Ranges, minus, ranges_of, union
 from .tickets import Tickets
 
@@ -85,8 +85,9 @@ class Leases:
         now = self.local_clock()
         self.clock.sample(sent, reading, now)
         if self._log.is_kept:
-            members = {"task": self.task, "sent": sent, "reading": reading, "now": now}
-            self._log.append(line_of(self._tickets.draw(), "sample", "sampled", **members))
+            taken = LoggedCall(self._tickets.draw(), CALLS["sample"], task=self.task, at=now)
+            taken.sent, taken.reading = sent, reading
+            self._log.append(log_line(self.job, taken))
 
     def is_sampled(self) -> bool:
         """Whether the clock has heard an answer of the table."""

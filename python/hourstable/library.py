@@ -45,7 +45,7 @@ SCRIPT_WORDS = {"OLD_GENERATION": "old"}  # if a script has another word than th
 ACTIONS = {1: "take", 2: "renew", 3: "commit", 4: "propose", 5: "rest"}
 CALLS = {word: number for number, word in enumerate((
     "take renew propose commit grant free lose phase restore open start hear release serve hold check"
-    " learn look forget"
+    " learn look forget sample"
 ).split(), 1)}  # the calls of which a line of a log may be
 TASK_ACTIONS = ("start", "ask guard", "ask bridge", "give up guard", "give up bridge", "rest")
 
@@ -244,7 +244,7 @@ class LoggedCall(ctypes.Structure):
         ("ticket", ctypes.c_uint64), ("call", ctypes.c_uint32), ("code", ctypes.c_int32),
         *fields("task clerk assigner term at slice_key"), *fields("life kind", ctypes.c_uint32),
         ("count", ctypes.c_uint64), ("told", Told), ("job_term", JobTerm), ("phase", Phase),
-        ("handle", KeyHandle), ("owners", Owners),
+        ("handle", KeyHandle), ("owners", Owners), *fields("sent reading"),
     ]
     ticket: int
     call: int
@@ -263,6 +263,19 @@ class LoggedCall(ctypes.Structure):
     phase: Phase
     handle: KeyHandle
     owners: Owners
+    sent: int
+    reading: int
+
+
+class Receipt(ctypes.Structure):
+    """A grant that a task received, as hs_slicelet_receive of the header writes it. `evidence` is 1 if
+    the grant shows that clocks are not timely, and was not heard."""
+
+    _fields_ = [*fields("ticket at"), ("told", Told), ("evidence", ctypes.c_uint32)]
+    ticket: int
+    at: int
+    told: Told
+    evidence: int
 
 
 class LoadRecord(Numbers):
@@ -427,6 +440,7 @@ DECLARED: dict[str, list[CType]] = {
     "slicelet_calls_left": [P(Place), P(ctypes.c_uint64)],
     "slicelet_start": [P(Place), U32, U64],
     "slicelet_hear": [P(Place), *BYTES, U64, P(Told)],
+    "slicelet_receive": [P(Place), P(TaskClock), U64, P(Policy), *BYTES, P(Receipt), *OUT],
     "slicelet_release": [P(Place), U32, U64, *OUT],
     "slicelet_serve": [P(Place), *BYTES, U64, P(Told)],
     "slicelet_hold": [P(Place), *BYTES, U64, P(KeyHandle), P(Told)],

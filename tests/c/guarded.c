@@ -133,6 +133,13 @@ int32_t guarded_slicelet_hear(struct hs_place *place, const uint8_t *grant, size
     return returned(hs_slicelet_hear(PLACE, READ_ALL(grant, grant_len), at, TOLD));
 }
 
+int32_t guarded_slicelet_receive(struct hs_place *place, struct hs_task_clock *clock, uint64_t now,
+                                 const struct hs_policy *policy, const uint8_t *grant, size_t grant_len,
+                                 struct hs_receipt *receipt, uint8_t *out, size_t out_len, size_t *needed) {
+    return returned(hs_slicelet_receive(PLACE, WRITTEN(clock), now, READ(policy), READ_ALL(grant, grant_len),
+                                        WRITTEN(receipt), OUT));
+}
+
 int32_t guarded_slicelet_release(struct hs_place *place, uint32_t kind, uint64_t at, uint8_t *out, size_t out_len,
                                  size_t *needed) {
     return returned(hs_slicelet_release(PLACE, kind, at, OUT));

@@ -29,6 +29,9 @@ int32_t guarded_slicelet_calls_left(const struct hs_place *place, uint64_t *left
 int32_t guarded_slicelet_start(struct hs_place *place, uint32_t life, uint64_t at);
 int32_t guarded_slicelet_hear(struct hs_place *place, const uint8_t *grant, size_t grant_len, uint64_t at,
                               struct hs_told *told);
+int32_t guarded_slicelet_receive(struct hs_place *place, struct hs_task_clock *clock, uint64_t now,
+                                 const struct hs_policy *policy, const uint8_t *grant, size_t grant_len,
+                                 struct hs_receipt *receipt, uint8_t *out, size_t out_len, size_t *needed);
 int32_t guarded_slicelet_release(struct hs_place *place, uint32_t kind, uint64_t at, uint8_t *out, size_t out_len,
                                  size_t *needed);
 int32_t guarded_slicelet_serve(const struct hs_place *place, const uint8_t *key, size_t key_len, uint64_t at,
@@ -126,6 +129,7 @@ int32_t guarded_clock_evidence(const uint8_t *job, size_t job_len, const uint8_t
 #define hs_slicelet_calls_left guarded_slicelet_calls_left
 #define hs_slicelet_start guarded_slicelet_start
 #define hs_slicelet_hear guarded_slicelet_hear
+#define hs_slicelet_receive guarded_slicelet_receive
 #define hs_slicelet_release guarded_slicelet_release
 #define hs_slicelet_serve guarded_slicelet_serve
 #define hs_slicelet_hold guarded_slicelet_hold

@@ -39,7 +39,9 @@ static struct hs_logged_call call_of(uint32_t call, int32_t code) {
                                    .job_term = {15, 4, 16},
                                    .phase = {17, 18},
                                    .handle = {2, 9, 19, 8},
-                                   .owners = {20, 2, {1, 3}}};
+                                   .owners = {20, 2, {1, 3}},
+                                   .sent = 21,
+                                   .reading = 22};
 }
 
 /* Writes a line to a buffer of this room. One that is not done writes nothing. */
@@ -117,6 +119,8 @@ static void task_lines(void) {
          "{\"at\":6,\"do\":\"hold\",\"reply\":\"handle life 8 position 19\",\"slice_key\":9,\"task\":2,\"ticket\":7}");
     done(HS_CALL_CHECK, "",
          "{\"at\":6,\"do\":\"check\",\"handle\":" LINE_HANDLE ",\"reply\":\"continuous\",\"task\":2,\"ticket\":7}");
+    done(HS_CALL_SAMPLE, "{",
+         "{\"do\":\"sample\",\"now\":6,\"reading\":22,\"reply\":\"sampled\",\"sent\":21,\"task\":2,\"ticket\":7}");
 }
 
 static void clerk_lines(void) {
@@ -201,7 +205,7 @@ static void other_codes(void) {
     static const int32_t none[] = {HS_NO_MEMORY,   HS_NO_ROOM,   HS_NOT_JSON,     HS_WRONG_FORM,
                                    HS_OTHER_PLACE, HS_OTHER_JOB, INT32_MIN,       INT32_MAX,
                                    HS_NOT_ADOPTED, HS_NO_SAMPLE, HS_OTHER_POLICY, 47};
-    for (uint32_t call = HS_CALL_TAKE; call <= HS_CALL_FORGET; call++) {
+    for (uint32_t call = HS_CALL_TAKE; call <= HS_CALL_SAMPLE; call++) {
         const char *message = call == HS_CALL_HEAR                               ? grant
                               : call == HS_CALL_FREE                             ? note
                               : call == HS_CALL_RESTORE                          ? kept
@@ -218,6 +222,8 @@ static void other_codes(void) {
     IS(try_line(call_of(HS_CALL_RESTORE, HS_NO_TERM), kept), HS_WRONG_FORM);
     IS(try_line(call_of(HS_CALL_FORGET, HS_UNKNOWN), ""), HS_WRONG_FORM);
     IS(try_line(call_of(HS_CALL_PHASE, HS_CLOCK_BACK), ""), HS_WRONG_FORM);
+    IS(try_line(call_of(HS_CALL_SAMPLE, HS_CLOCK_BACK), ""), HS_WRONG_FORM);
+    IS(try_line(call_of(HS_CALL_SAMPLE, HS_SENT_AHEAD), ""), HS_WRONG_FORM);
 }
 
 #define WITHOUT(call, code, message, change)                                                                           \
@@ -229,7 +235,7 @@ static void other_codes(void) {
 
 static void numbers_beyond_limits(void) {
     WITHOUT(HS_CALL_TAKE, HS_DONE, "", call = 0);
-    WITHOUT(HS_CALL_TAKE, HS_DONE, "", call = 20);
+    WITHOUT(HS_CALL_TAKE, HS_DONE, "", call = 21);
     WITHOUT(HS_CALL_GRANT, HS_DONE, grant, task = 0);
     WITHOUT(HS_CALL_GRANT, HS_DONE, grant, task = 65);
     WITHOUT(HS_CALL_COMMIT, HS_HELD, "", told.task = 0);
@@ -253,11 +259,14 @@ static void numbers_beyond_limits(void) {
 /* Members that a call does not name are not looked at, nor is the message of a call that has none. */
 static void members_of_others(void) {
     struct hs_logged_call look = call_of(HS_CALL_LOOK, HS_UNKNOWN),
-                          forget = {.ticket = 7, .call = HS_CALL_FORGET, .clerk = 3};
+                          forget = {.ticket = 7, .call = HS_CALL_FORGET, .clerk = 3},
+                          sample = {.ticket = 7, .call = HS_CALL_SAMPLE, .task = 2, .at = 6, .sent = 21, .reading = 22};
     look.owners.count = 6;
     look.kind = 3;
     is_line(look, "{", "{\"clerk\":3,\"do\":\"look\",\"reply\":\"refused unknown\",\"slice_key\":9,\"ticket\":7}");
     is_line(forget, "", "{\"clerk\":3,\"do\":\"forget\",\"reply\":\"forgotten\",\"ticket\":7}");
+    is_line(sample, "",
+            "{\"do\":\"sample\",\"now\":6,\"reading\":22,\"reply\":\"sampled\",\"sent\":21,\"task\":2,\"ticket\":7}");
     refused(HS_CALL_GRANT, HS_NO_ASSIGNMENT, "{", "refused no-assignment");
     refused(HS_CALL_RELEASE, HS_NOTHING_HELD, "{", "refused nothing-held");
 }

@@ -77,6 +77,25 @@ static int32_t hear_more(struct hs_place *place) {
     return hs_slicelet_hear(place, (const uint8_t *)text, strlen(text), 6, fresh_told());
 }
 
+/* Receives the same grant, with its line. */
+static int32_t receive_more(struct hs_place *place) {
+    const char *text = GRANT("guard", "1", "8", "[[0,5],[9,10]]", "2");
+    struct hs_receipt receipt = {.ticket = 1, .at = UNTOLD};
+    struct hs_task_clock clock, before;
+    uint8_t out[512];
+    size_t needed = UNTOLD;
+    memset(out, '-', sizeof out);
+    IS(hs_task_clock_new(&clock, 0, 1, 0, UINT64_MAX), HS_DONE);
+    IS(hs_task_clock_sample(&clock, 0, 6, 0), HS_DONE);
+    before = clock;
+    int32_t code = hs_slicelet_receive(place, &clock, 0, &policy, (const uint8_t *)text, strlen(text), &receipt, out,
+                                       sizeof out, &needed);
+    HOLDS(code == HS_DONE ? needed < sizeof out && receipt.at == 6 && clock.given == 6
+                          : needed == UNTOLD && receipt.at == UNTOLD && are_dashes(out, sizeof out) &&
+                                memcmp(&clock, &before, sizeof clock) == 0);
+    return code;
+}
+
 static int32_t give_back(struct hs_place *place) {
     static uint8_t out[256];
     size_t needed = 0;
@@ -341,6 +360,7 @@ static void takes_none(void) {
 void check_memory(void) {
     const struct trial trials[] = {
         {"hear", serving_task, hear_more, slicelet_state},
+        {"receive", serving_task, receive_more, slicelet_state},
         {"release", serving_task, give_back, slicelet_state},
         {"learn", knowing_clerk, learn_more, clerk_state},
         {"propose", steady_table, propose_more, table_state},

@@ -297,6 +297,144 @@ static void blocks(void) {
     hs_place_free(&task);
 }
 
+/* A grant that was made at a reading of 40, by the policy, and may be heard until 130. */
+static const char ahead[] = MESSAGE("grant", "\"ends\":130,\"generation\":3,\"kind\":\"guard\",\"life\":1,"
+                                             "\"number\":9,\"ranges\":[[0,5]],\"task\":2,\"until\":140");
+
+/* A task with its clock, and what was written of the last grant that it received. */
+struct receiver {
+    struct hs_place place;
+    struct hs_task_clock clock;
+    struct hs_receipt receipt;
+    uint8_t line[1024];
+    size_t needed;
+};
+
+/* The value of its clock is 6 ahead of the local reading, for at most 90 ticks. */
+static struct receiver receiver(void) {
+    struct receiver made = {.place = serving_task(), .needed = UNTOLD};
+    memset(&made.receipt, '-', sizeof made.receipt);
+    memset(made.line, '-', sizeof made.line);
+    made.receipt.ticket = 23;
+    IS(hs_task_clock_new(&made.clock, 0, 1, 0, 90), HS_DONE);
+    IS(hs_task_clock_sample(&made.clock, 0, 6, 0), HS_DONE);
+    return made;
+}
+
+static int32_t receive(struct receiver *task, uint64_t now, const struct hs_policy *by, const char *text, size_t room) {
+    return hs_slicelet_receive(&task->place, &task->clock, now, by, (const uint8_t *)text, strlen(text), &task->receipt,
+                               task->line, room, &task->needed);
+}
+
+/* The same by the calls that it is made of. */
+static int32_t receive_by_parts(struct receiver *task, uint64_t now, const struct hs_policy *by, const char *text) {
+    struct hs_task_clock clock = task->clock;
+    struct hs_receipt receipt = task->receipt;
+    const uint8_t *grant = (const uint8_t *)text;
+    int32_t code = hs_task_clock_read(&clock, now, &receipt.at);
+    if (code == HS_DONE)
+        code = hs_clock_evidence(JOB, grant, strlen(text), receipt.at, by, &receipt.evidence);
+    if (code != HS_DONE)
+        return code;
+    task->needed = 0;
+    if (!receipt.evidence) {
+        code = hs_slicelet_hear(&task->place, grant, strlen(text), receipt.at, &receipt.told);
+        struct hs_logged_call call = {.ticket = receipt.ticket,
+                                      .call = HS_CALL_HEAR,
+                                      .code = code,
+                                      .task = 2,
+                                      .at = receipt.at,
+                                      .told = receipt.told};
+        IS(hs_log_line(JOB, &call, grant, strlen(text), task->line, sizeof task->line, &task->needed), HS_DONE);
+    }
+    task->clock = clock;
+    task->receipt = receipt;
+    return code;
+}
+
+static int told_alike(const struct hs_receipt *one, const struct hs_receipt *other) {
+    return one->ticket == other->ticket && one->at == other->at && one->evidence == other->evidence &&
+           memcmp(&one->told, &other->told, sizeof one->told) == 0;
+}
+
+static int are_alike(struct receiver *one, struct receiver *other) {
+    return slicelet_state(&one->place) == slicelet_state(&other->place) && one->needed == other->needed &&
+           memcmp(&one->clock, &other->clock, sizeof one->clock) == 0 && told_alike(&one->receipt, &other->receipt) &&
+           memcmp(one->line, other->line, sizeof one->line) == 0;
+}
+
+/* In one call as by its parts. */
+static void receives(uint64_t now, const struct hs_policy *by, const char *text, int32_t wanted) {
+    struct receiver one = receiver(), other = receiver();
+    IS(receive(&one, now, by, text, sizeof one.line), wanted);
+    IS(receive_by_parts(&other, now, by, text), wanted);
+    HOLDS(are_alike(&one, &other));
+    hs_place_free(&one.place);
+    hs_place_free(&other.place);
+}
+
+/* A call that is not made changes nothing. */
+static void receives_nothing(uint64_t now, const struct hs_policy *by, const char *text, size_t room, int32_t wanted) {
+    struct receiver one = receiver(), other = receiver();
+    IS(receive(&one, now, by, text, room), wanted);
+    HOLDS(wanted == HS_NO_ROOM ? one.needed > room : one.needed == UNTOLD);
+    one.needed = other.needed;
+    HOLDS(are_alike(&one, &other));
+    hs_place_free(&one.place);
+    hs_place_free(&other.place);
+}
+
+static void receives_without_line(void) {
+    struct receiver one = receiver(), other = receiver();
+    IS(receive(&one, 24, &policy, ahead, 0), HS_DONE);
+    HOLDS(one.needed == 0 && are_dashes(one.line, sizeof one.line) && one.receipt.evidence == 0);
+    IS(receive_by_parts(&other, 24, &policy, ahead), HS_DONE);
+    HOLDS(slicelet_state(&one.place) == slicelet_state(&other.place) && one.clock.given == 30);
+    HOLDS(told_alike(&one.receipt, &other.receipt) && one.receipt.told.number == 9);
+    IS(receive(&one, 25, &policy, ahead, 0), HS_OLD);
+    HOLDS(one.receipt.told.number == 9 && one.receipt.at == 31 && one.clock.given == 31);
+    hs_place_free(&one.place);
+    hs_place_free(&other.place);
+}
+
+/* A grant that was made at 40 is evidence at 29, with a skew of 10, and none at 30. */
+static void receives_grants(void) {
+    const char *old = GRANT("guard", "1", "7", ALL_KEYS, "2"), *late = GRANT("bridge", "1", "8", "[[0,5]]", "2");
+    const struct hs_policy none = {0};
+    struct hs_place other = knowing_clerk();
+    struct receiver stopped = receiver();
+    receives(24, &policy, ahead, HS_DONE);
+    receives(23, &policy, ahead, HS_DONE);
+    receives(1, &policy, late, HS_DONE);
+    receives(1, &policy, old, HS_OLD);
+    receives(89, &policy, late, HS_TOO_LATE);
+    receives(1, &policy, GRANT("guard", "1", "9", ALL_KEYS, "3"), HS_OTHER_TASK);
+    receives(1, &policy, GRANT("guard", "2", "9", ALL_KEYS, "2"), HS_OTHER_LIFE);
+    receives(91, &policy, late, HS_TOO_OLD);
+    receives(1, &policy, "{", HS_NOT_JSON);
+    receives(1, &policy, note, HS_OTHER_TYPE);
+    receives(1, &none, late, HS_WRONG_FORM);
+    receives(1, &none, "{", HS_WRONG_FORM);
+    receives_nothing(91, &none, late, 1024, HS_TOO_OLD);
+    receives_nothing(1, &policy, "{\"version\":9}", 1024, HS_VERSION);
+    receives_nothing(1, &none, "{\"version\":9}", 1024, HS_WRONG_FORM);
+    receives_nothing(24, &policy, ahead, 1, HS_NO_ROOM);
+    receives_nothing(1, &policy, old, 1, HS_NO_ROOM);
+    receives_without_line();
+    IS(receive(&stopped, 23, &policy, ahead, 1024), HS_DONE);
+    HOLDS(stopped.receipt.evidence == 1 && stopped.receipt.at == 29 && stopped.needed == 0);
+    HOLDS(are_dashes(stopped.line, sizeof stopped.line) && stopped.clock.given == 29);
+    IS(serve(&stopped.place, 29), HS_DONE);
+    HOLDS(tells(7, 3, HS_GUARD, UNTOLD, 95));
+    stopped.clock.per = 0;
+    IS(receive(&stopped, 24, &policy, ahead, 1024), HS_WRONG_FORM);
+    IS(hs_slicelet_receive(&other, &stopped.clock, 24, &policy, (const uint8_t *)"{", 1, &stopped.receipt, stopped.line,
+                           1024, &stopped.needed),
+       HS_OTHER_PLACE);
+    hs_place_free(&stopped.place);
+    hs_place_free(&other);
+}
+
 /* A task's next process starts only higher lives, and knows no handle of an earlier one. Its notes are those of
  * the greatest number that a grant can have. */
 static void resumes(void) {
@@ -470,6 +608,7 @@ void check_slicelets(void) {
     two_leases();
     by_slice_key();
     blocks();
+    receives_grants();
     resumes();
     goes_on();
     permits_ranges();

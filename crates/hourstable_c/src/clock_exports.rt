@@ -11,7 +11,10 @@ ghost use Rattle.c_calls.specs.TableClocks.{read_code, read_out};
 ghost use Rattle.c_calls.specs.TaskClocks.{IsNew, OnTaskClock, IsSampled, IsRead};
 ghost use Rattle.hourstable_c.specs.Returned.{Returns};
 
-use c_calls::{PolicyNumbers, evidence, new_task_clock, open_table_clock, read_table_clock, read_task_clock, sample_task_clock};
+use c_calls::{
+    PolicyNumbers, evidence, new_task_clock, open_table_clock, read_table_clock, read_task_clock,
+    sample_task_clock,
+};
 use clocks::{TableClock, TaskClockNumbers};
 use std::alloc::Global;
 

@@ -19,6 +19,7 @@ mod parts;
 mod place;
 mod place_exports;
 mod process_exports;
+mod receipt_exports;
 mod slicelet_exports;
 mod table_exports;
 mod version_exports;

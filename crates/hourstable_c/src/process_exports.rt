@@ -15,9 +15,11 @@ ghost use Rattle.slicelet.specs.declared.slicelet.TheConstants.{CALLS};
 
 use crate::held::Held;
 use crate::place::Place;
-use c_calls::{Answer, job_of};
-use c_calls::slicelets::{HeldNumbers, calls_left, ended_note, held, next, permitted, resume_slicelet};
+use c_calls::slicelets::{
+    HeldNumbers, calls_left, ended_note, held, next, permitted, resume_slicelet,
+};
 use c_calls::tables::PhaseNumbers;
+use c_calls::{Answer, job_of};
 use std::alloc::Global;
 
 /// Creates the slicelet of a task's new process in `place`, destroying what was there.

@@ -26,8 +26,11 @@ ghost use Rattle.hourstable_c.specs.Returned.{Returns, Tells};
 use crate::held::Held;
 use crate::place::Place;
 use crate::place_exports::close_where;
+use c_calls::tables::{
+    PhaseNumbers, RowNumbers, TermNumbers, commit, committed, free, grant, open_table, phase,
+    propose, renew, restart, rows, take,
+};
 use c_calls::{Answer, AnswerDetails, PolicyNumbers, job_of};
-use c_calls::tables::{PhaseNumbers, RowNumbers, TermNumbers, commit, committed, free, grant, open_table, phase, propose, renew, restart, rows, take};
 use std::alloc::Global;
 
 /// Creates a new table of a job in `place`, destroying what was there.

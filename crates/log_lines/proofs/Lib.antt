@@ -2,3 +2,6 @@ pub mod Values
 pub mod ReadBack
 pub mod Written
 pub mod MessageReads
+pub mod Giving
+pub mod Receiving
+pub mod Entering

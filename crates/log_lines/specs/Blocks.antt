@@ -62,6 +62,8 @@ block_line call code task key block = record {
   phase = no_phase;
   handle = block.handle;
   owners = no_owners;
+  sent = 0;
+  reading = 0;
 }
 
 -- a line is given as that of any call; a buffer of length 0 wants none

@@ -1,7 +1,7 @@
 -- The calls of which a line may be, by the numbers that C passes. A number never changes its meaning.
 use Rattle.std.specs.Prelude.{ℕ, List, [], ◌∷◌, Option}
 use Rattle.log_lines.specs.declared.call_name.CallName.{CallName}
-use Rattle.log_lines.specs.declared.call_name.CallName.TheVariants.{Table, Phase, Restore, Open, Task, Serve, Hold, Check, Learn, Look, Forget}
+use Rattle.log_lines.specs.declared.call_name.CallName.TheVariants.{Table, Phase, Restore, Open, Task, Serve, Hold, Check, Learn, Look, Forget, Sample}
 use Rattle.log_lines.specs.declared.call_name.TableCallName.TheVariants as table
 use Rattle.log_lines.specs.declared.call_name.TaskCallName.TheVariants as task
 use Rattle.log_lines.specs.Coded.{coded}
@@ -26,7 +26,8 @@ call_numbers =
     (16, Check) ∷
     (17, Learn) ∷
     (18, Look) ∷
-    (19, Forget) ∷ []
+    (19, Forget) ∷
+    (20, Sample) ∷ []
 
 -- the call with a number, if there is one
 abbrev pub call_named : ℕ → Option CallName

@@ -12,6 +12,7 @@ use Rattle.job_calls.specs.declared.call.ClusterCall.{ClusterCall}
 use Rattle.job_calls.specs.declared.call.ClusterCall.TheVariants as call
 use Rattle.log_line.specs.declared.line.LoggedCall.{LoggedCall}
 use Rattle.log_line.specs.declared.line.LoggedCall.TheVariants as logged
+use Rattle.log_line.specs.declared.line.TaskSample.{TaskSample}
 use Rattle.log_line.specs.declared.restored.KeptNumbers.{KeptNumbers}
 use Rattle.c_calls.specs.Arguments.{kind_of, slice_key_of, task_of}
 use Rattle.c_calls.specs.slicelets.KeyHandles.{handle_of}
@@ -74,8 +75,14 @@ machine_call_in name.Check n message = option_map (λ handle. call.Check n.task 
 machine_call_in name.Learn n message = option_map (λ slicing. call.Clerk n.clerk (clerk_call.Learn slicing)) (assignment_in message)
 machine_call_in name.Look n message = option_map (call.Look n.clerk) (slice_key_of n.slice_key)
 machine_call_in name.Forget n message = Some (call.Clerk n.clerk clerk_call.Forget)
+machine_call_in name.Sample n message = None
 
--- the same, or that a table is restored
+-- a sample of a task's clock, which no machine sees
+abbrev pub sample_in : LoggedNumbers → TaskSample
+sample_in n = record { task = n.task; sample = record { sent = n.sent; reading = n.reading }; now = n.at }
+
+-- the same, or that a table is restored, or that a sample is taken
 abbrev pub call_in : CallName → LoggedNumbers → Message → Option LoggedCall
 call_in name.Restore n message = option_map logged.Restore (kept_in message)
+call_in name.Sample n message = Some (logged.Sample (sample_in n))
 call_in other n message = option_map logged.Whole (machine_call_in other n message)

@@ -7,3 +7,4 @@ pub mod Replies
 pub mod LineData
 pub mod Lines
 pub mod Blocks
+pub mod Receipts

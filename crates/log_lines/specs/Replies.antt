@@ -89,6 +89,10 @@ abbrev pub restored_in : Message → ℕ → Option CallerReply
 restored_in (message.Kept numbers generation) code = if code == 0 then Some (told.Restored generation numbers.deadline) else None
 restored_in _ code = None
 
+-- that a sample was taken
+abbrev pub sampled_in : ℕ → Option CallerReply
+sampled_in code = if code == 0 then Some told.Sampled else None
+
 -- the reply of the machines, where the code is one of the call
 abbrev pub reply_in : CallName → LoggedNumbers → Message → ℕ → Option ClusterReply
 reply_in call n message code = if code == 0 then done_in call n message else refusal_in call code n.told
@@ -96,6 +100,7 @@ reply_in call n message code = if code == 0 then done_in call n message else ref
 abbrev pub told_with : CallName → LoggedNumbers → Message → LoggedCall → ℕ → Option CallerReply
 told_with name.Open n message call code = opened_in n code
 told_with name.Restore n message call code = restored_in message code
+told_with name.Sample n message call code = sampled_in code
 told_with other n message call code = option_map (told_as call no_numbers) (reply_in other n message code)
 
 -- what the caller was told

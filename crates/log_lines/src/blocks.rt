@@ -2,7 +2,7 @@
 
 ghost use Rattle.std.specs.Prelude.{◌≡◌, Some};
 ghost use Rattle.c_calls.specs.Outputs.{output};
-ghost use Rattle.log_lines.specs.Blocks.{IsEnded, IsEntered, IsLineIn, block_line, kept};
+ghost use Rattle.log_lines.specs.Blocks.{IsEnded, IsEntered, IsEnteredAt, IsLeftAt, IsLineIn, IsNoted, block_line, kept};
 ghost use Rattle.log_lines.specs.CallNames.{call_named};
 
 use crate::call_name::CallName;
@@ -32,8 +32,8 @@ pub struct BlockNumbers {
     pub told: AnswerDetails,
 }
 
-// Returns the numbers of the line of a call of a slicelet.
-fn block_line(
+/// Returns the numbers of the line of a call of a slicelet.
+pub fn block_line(
     call: u32,
     code: i32,
     task: TaskId,
@@ -71,6 +71,8 @@ fn block_line(
             count: 0,
             tasks: [0; MOST_OWNERS],
         },
+        sent: 0,
+        reading: 0,
     }
 }
 
@@ -91,6 +93,116 @@ fn give_line_in(
         return Answer::Done;
     }
     give_named_line(alloc, job, name, numbers, &[], out, needed)
+}
+
+// Writes the line of a call, and keeps the clock and what was written of the call if it is written.
+fn keep_with_line(
+    alloc: Global,
+    job: &JobName,
+    name: CallName,
+    numbers: &LoggedNumbers,
+    answer: Answer,
+    read: TaskClockNumbers,
+    made: BlockNumbers,
+    clock: &mut TaskClockNumbers,
+    block: &mut BlockNumbers,
+    out: &mut [u8],
+    needed: &mut usize,
+) -> Answer
+    requires { call_named numbers.now.call ≡ Some name }
+    ensures { IsNoted job.now numbers.now answer read made
+        (kept clock.old block.old (output out.old needed.old)) (kept clock.new block.new (output out.new needed.new)) result }
+{
+    let line = give_line_in(alloc, job, name, numbers, out, needed);
+    match line {
+        Answer::Done => {
+            *clock = read;
+            *block = made;
+            answer
+        }
+        _ => line,
+    }
+}
+
+// Enters a block of work at a value of the clock.
+fn enter_at(
+    alloc: Global,
+    job: &JobName,
+    slicelet: &Slicelet,
+    slice_key: u64,
+    read: TaskClockNumbers,
+    at: u64,
+    clock: &mut TaskClockNumbers,
+    block: &mut BlockNumbers,
+    out: &mut [u8],
+    needed: &mut usize,
+) -> Answer
+    ensures { IsEnteredAt job.now slice_key slicelet.now read at
+        (kept clock.old block.old (output out.old needed.old)) (kept clock.new block.new (output out.new needed.new)) result }
+{
+    let mut made = BlockNumbers { at, ..*block };
+    let held = hold_at(
+        slicelet,
+        slice_key,
+        at,
+        &mut made.handle,
+        &mut made.told.covering,
+    );
+    let code = held.tell(&mut made.told);
+    if code < 0 {
+        return held;
+    }
+    let numbers = block_line(15, code, slicelet.task(), slice_key, &made);
+    keep_with_line(
+        alloc,
+        job,
+        CallName::Hold,
+        &numbers,
+        held,
+        read,
+        made,
+        clock,
+        block,
+        out,
+        needed,
+    )
+}
+
+// Leaves a block of work at a value of the clock.
+fn leave_at(
+    alloc: Global,
+    job: &JobName,
+    slicelet: &Slicelet,
+    read: TaskClockNumbers,
+    at: u64,
+    clock: &mut TaskClockNumbers,
+    block: &mut BlockNumbers,
+    out: &mut [u8],
+    needed: &mut usize,
+) -> Answer
+    ensures { IsLeftAt job.now slicelet.now read at
+        (kept clock.old block.old (output out.old needed.old)) (kept clock.new block.new (output out.new needed.new)) result }
+{
+    let made = BlockNumbers { at, ..*block };
+    let checked = check(slicelet, &made.handle, at);
+    let code = checked.number();
+    if code < 0 {
+        return checked;
+    }
+    let numbers = block_line(16, code, slicelet.task(), made.handle.slice_key, &made);
+    keep_with_line(
+        alloc,
+        job,
+        CallName::Check,
+        &numbers,
+        checked,
+        read,
+        made,
+        clock,
+        block,
+        out,
+        needed,
+    )
 }
 
 /// Enters a block of work on the keys of a slice key: reads the task's clock at the local reading
@@ -119,30 +231,14 @@ pub fn enter(
         (kept clock.old block.old (output out.old needed.old)) (kept clock.new block.new (output out.new needed.new)) result }
 {
     let mut read = *clock;
-    let mut made = *block;
-    let reading = read_task_clock(&mut read, now, &mut made.at);
-    if reading != Answer::Done {
-        return reading;
+    let mut at = block.at;
+    let reading = read_task_clock(&mut read, now, &mut at);
+    match reading {
+        Answer::Done => enter_at(
+            alloc, job, slicelet, slice_key, read, at, clock, block, out, needed,
+        ),
+        _ => reading,
     }
-    let held = hold_at(
-        slicelet,
-        slice_key,
-        made.at,
-        &mut made.handle,
-        &mut made.told.covering,
-    );
-    let code = held.tell(&mut made.told);
-    if code < 0 {
-        return held;
-    }
-    let numbers = block_line(15, code, slicelet.task(), slice_key, &made);
-    let line = give_line_in(alloc, job, CallName::Hold, &numbers, out, needed);
-    if line != Answer::Done {
-        return line;
-    }
-    *clock = read;
-    *block = made;
-    held
 }
 
 /// Leaves a block of work: reads the task's clock at the local reading `now`, checks the handle of
@@ -171,22 +267,10 @@ pub fn leave(
         (kept clock.old block.old (output out.old needed.old)) (kept clock.new block.new (output out.new needed.new)) result }
 {
     let mut read = *clock;
-    let mut made = *block;
-    let reading = read_task_clock(&mut read, now, &mut made.at);
-    if reading != Answer::Done {
-        return reading;
+    let mut at = block.at;
+    let reading = read_task_clock(&mut read, now, &mut at);
+    match reading {
+        Answer::Done => leave_at(alloc, job, slicelet, read, at, clock, block, out, needed),
+        _ => reading,
     }
-    let checked = check(slicelet, &made.handle, made.at);
-    let code = checked.number();
-    if code < 0 {
-        return checked;
-    }
-    let numbers = block_line(16, code, slicelet.task(), made.handle.slice_key, &made);
-    let line = give_line_in(alloc, job, CallName::Check, &numbers, out, needed);
-    if line != Answer::Done {
-        return line;
-    }
-    *clock = read;
-    *block = made;
-    checked
 }

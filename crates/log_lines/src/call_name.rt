@@ -58,6 +58,8 @@ pub enum CallName {
     Look,
     /// A clerk forgets its assignment.
     Forget,
+    /// A task's clock takes an answer of the table.
+    Sample,
 }
 
 impl CallName {
@@ -85,6 +87,7 @@ impl CallName {
             17 => CallName::Learn,
             18 => CallName::Look,
             19 => CallName::Forget,
+            20 => CallName::Sample,
             _ => return None,
         })
     }

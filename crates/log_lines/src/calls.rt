@@ -1,16 +1,17 @@
 //! The calls that numbers and messages say.
 
 ghost use Rattle.std.specs.Prelude.{◌≡◌};
-ghost use Rattle.log_lines.specs.Calls.{call_in, machine_call_in, table_call_in, task_call_in};
+ghost use Rattle.log_lines.specs.Calls.{call_in, machine_call_in, sample_in, table_call_in, task_call_in};
 
 use crate::arguments::{kind_of, slice_key_of, task_of};
 use crate::call_name::{CallName, TableCallName, TaskCallName};
 use crate::message::Message;
 use crate::numbers::LoggedNumbers;
 use clerk::ClerkCall;
+use clocks::Sample;
 use grants::{SliceletCall, TableCall};
 use job_calls::ClusterCall;
-use log_line::LoggedCall;
+use log_line::{LoggedCall, TaskSample};
 
 fn table_call_in(name: TableCallName, n: &LoggedNumbers, message: Message) -> Option<TableCall>
     ensures { result ≡ table_call_in name n.now message }
@@ -72,7 +73,7 @@ fn machine_call_in(name: CallName, n: &LoggedNumbers, message: Message) -> Optio
     Some(match name {
         CallName::Table(name) => ClusterCall::Table(table_call_in(name, n, message)?),
         CallName::Phase => ClusterCall::Phase,
-        CallName::Restore => return None,
+        CallName::Restore | CallName::Sample => return None,
         CallName::Open => ClusterCall::Task {
             task: n.task,
             call: SliceletCall::Resume { life: n.life },
@@ -111,12 +112,27 @@ fn machine_call_in(name: CallName, n: &LoggedNumbers, message: Message) -> Optio
     })
 }
 
+// Returns the sample that was taken.
+fn sample_in(n: &LoggedNumbers) -> TaskSample
+    ensures { result ≡ sample_in n.now }
+{
+    TaskSample {
+        task: n.task,
+        sample: Sample {
+            sent: n.sent,
+            reading: n.reading,
+        },
+        now: n.at,
+    }
+}
+
 /// Returns the call that the numbers and the message say, or `None` if they say none.
 pub fn call_in(name: CallName, n: &LoggedNumbers, message: Message) -> Option<LoggedCall>
     ensures { result ≡ call_in name n.now message }
 {
     match name {
         CallName::Restore => Some(LoggedCall::Restore(message.kept()?)),
+        CallName::Sample => Some(LoggedCall::Sample(sample_in(n))),
         name => Some(LoggedCall::Whole(machine_call_in(name, n, message)?)),
     }
 }

@@ -15,6 +15,7 @@ mod line_laws;
 mod message;
 mod numbers;
 mod output;
+mod receipts;
 mod refusals;
 mod replied;
 
@@ -23,3 +24,4 @@ pub use call_name::{CallName, TableCallName, TaskCallName};
 pub use laws::{ground_law, table_error_law, task_error_law};
 pub use line::log_line;
 pub use numbers::LoggedNumbers;
+pub use receipts::{ReceiptNumbers, receive};

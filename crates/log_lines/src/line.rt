@@ -71,8 +71,8 @@ fn line_of(alloc: Global, ticket: u64, logged: &LoggedReply) -> Result<Vec<u8>, 
     Ok(text)
 }
 
-// Writes the line of the call that the numbers and the message say.
-fn give_line(
+/// Writes the line of the call that the numbers and the message say.
+pub fn give_line(
     alloc: Global,
     name: CallName,
     numbers: &LoggedNumbers,

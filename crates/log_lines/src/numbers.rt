@@ -25,7 +25,7 @@ pub struct LoggedNumbers {
     pub assigner: u64,
     /// The number of the term under which a call was made.
     pub term: u64,
-    /// The reading that was passed, in ticks.
+    /// The reading that was passed, in ticks. Of a sample, the local reading when it was taken.
     pub at: u64,
     /// The slice key of the key that was passed.
     pub slice_key: u64,
@@ -45,4 +45,8 @@ pub struct LoggedNumbers {
     pub handle: HandleNumbers,
     /// The owners that were written.
     pub owners: OwnersNumbers,
+    /// Of a sample, the local reading before its request was sent, in ticks.
+    pub sent: u64,
+    /// Of a sample, the table's reading in the answer, in ticks.
+    pub reading: u64,
 }

@@ -6,7 +6,7 @@ ghost use Rattle.assignment.specs.declared.slice.TheConstants.{MOST_OWNERS};
 ghost use Rattle.assignment.specs.Slices.{is_task};
 ghost use Rattle.log_line.specs.Told.{told_as};
 ghost use Rattle.log_lines.specs.Coded.{code_of};
-ghost use Rattle.log_lines.specs.Replies.{done_in, found_in, no_numbers, opened_in, reply_in, restored_in, served_in, table_reply_in, task_reply_in, told_in, told_with};
+ghost use Rattle.log_lines.specs.Replies.{done_in, found_in, no_numbers, opened_in, reply_in, restored_in, sampled_in, served_in, table_reply_in, task_reply_in, told_in, told_with};
 
 use crate::arguments::{kind_of, task_of};
 use crate::call_name::{CallName, TableCallName, TaskCallName};
@@ -103,7 +103,7 @@ fn done_in(name: CallName, n: &LoggedNumbers, message: Message) -> Option<Cluste
     Some(match name {
         CallName::Table(name) => ClusterReply::Table(table_reply_in(name, n, message)?),
         CallName::Phase => ClusterReply::Phase(n.phase.phase()?),
-        CallName::Restore | CallName::Open => return None,
+        CallName::Restore | CallName::Open | CallName::Sample => return None,
         CallName::Task(name) => ClusterReply::Task(task_reply_in(name, message)?),
         CallName::Serve => return served_in(n),
         CallName::Hold => ClusterReply::Holding(n.handle.handle()?),
@@ -154,6 +154,16 @@ fn restored_in(message: &Message, code: u32) -> Option<CallerReply>
     }
 }
 
+// Returns what the caller is told of a sample that was taken.
+fn sampled_in(code: u32) -> Option<CallerReply>
+    ensures { result ≡ sampled_in code }
+{
+    match code {
+        0 => Some(CallerReply::Sampled),
+        _ => None,
+    }
+}
+
 // Returns the reply of the machines, or `None` if the code is none of the call.
 fn reply_in(name: CallName, n: &LoggedNumbers, message: Message, code: u32) -> Option<ClusterReply>
     ensures { result ≡ reply_in name n.now message code }
@@ -184,6 +194,7 @@ fn told_with(
     match name {
         CallName::Open => opened_in(n, code),
         CallName::Restore => restored_in(&message, code),
+        CallName::Sample => sampled_in(code),
         name => Some(told_as(call, reply_in(name, n, message, code)?)),
     }
 }
