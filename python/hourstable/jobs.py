@@ -62,9 +62,13 @@ def is_number(value: object) -> bool:
     return isinstance(value, int) and not isinstance(value, bool) and 0 <= value < 1 << 64
 
 
+LAST = b'"last":"'  # in kept values, which have it after their assignments
+
+
 def last_in(kept: bytes) -> int:
     """Returns the last reading of kept values."""
-    return int(json.loads(kept)["value"]["last"])
+    at = kept.rindex(LAST) + len(LAST)
+    return int(kept[at:kept.index(b'"', at)])
 
 
 class Row(NamedTuple):
