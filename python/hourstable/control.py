@@ -188,6 +188,12 @@ class Plane:
         """Reads what is stored of a job. One that fails keeps no other from being served."""
         try:
             job = (await self.followed(name)).job
+        except NoSuchJob:
+            self.failures.forget(name)
+            return
+        except Exception:
+            return  # it is noted
+        try:
             await job.refresh()
         except NoSuchJob:
             self.failures.forget(name)
@@ -212,15 +218,17 @@ class Plane:
         return Job(name, self.store, self.settings, self.tickets, self.metrics)
 
     async def followed(self, name: str) -> Followed:
-        """Returns a job. Raises NoSuchJob, and what loading it raises."""
+        """Returns a job. Raises NoSuchJob, and what loading it raises, which is noted."""
         found = self.jobs.get(name)
         if found is None:
             job = self._job(name)
             try:
                 await job.load()
                 job.lives = await self.store.lives(name)
-            except BaseException:
+            except BaseException as error:
                 job.close()
+                if isinstance(error, Exception) and not isinstance(error, NoSuchJob):
+                    self._fail(name, "read", error)
                 raise
             found = self.jobs.setdefault(name, Followed(job, Loads(), {}, {}))
             if found.job is not job:
