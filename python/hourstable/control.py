@@ -589,7 +589,7 @@ class Plane:
             if not isinstance(asked, dict):
                 raise Malformed("a grant is no object")
             return await self.begin_grant(name_in(asked.get("job")), *asker_in(asked))
-        except ANSWERED as error:
+        except Exception as error:  # of this one alone
             return error
 
     def _grant_part(
@@ -604,8 +604,12 @@ class Plane:
             status, body = (200, made.result) if made.refusal is None else (409, refused(made))
             reading = b"null" if made.at is None else b"%d" % made.at
             return b'{"status":%d,"reading":%s,"body":%s}' % (status, reading, body)
-        except ANSWERED as error:
-            failed = self._failure_of(request, error)
+        except Exception as error:
+            if isinstance(error, ANSWERED):
+                failed = self._failure_of(request, error)
+            else:
+                self.supervisor.caught("request", error)
+                failed = failure(500, "an internal error: see the log of the plane")
             return b'{"status":%d,"reading":null,"body":%s}' % (failed.status, failed.body)
 
     async def _post_free(self, request: web.Request) -> web.Response:

@@ -24,7 +24,7 @@ from hourstable.failures import Failures  # noqa: E402
 from hourstable.limits import Limits  # noqa: E402
 from hourstable.service import ControlPlane  # noqa: E402
 from hourstable.state import state_folder  # noqa: E402
-from hourstable.store import Damaged, Life, Store, StoreFailed  # noqa: E402
+from hourstable.store import Damaged, Life, Store, Stored, StoreFailed  # noqa: E402
 from hourstable.store_etcd import EtcdStore  # noqa: E402
 from hourstable.system import System  # noqa: E402
 from hourstable.tickets import Tickets, real_milliseconds  # noqa: E402
@@ -414,6 +414,29 @@ class Surprising:
         if job == "shop":
             raise KeyError("what nobody expects")
         return await self._inner.version(job)
+
+
+class Unreadable(Surprising):
+    """A store that raises what nobody expects when one job is loaded."""
+
+    async def load(self, job: str) -> Stored | None:
+        if job == "shop":
+            raise KeyError("what nobody expects")
+        return await self._inner.load(job)
+
+
+async def test_several_grants_of_which_one_fails(file: Store, tmp_path: Path) -> None:
+    """Each is answered by itself, also if what nobody expects is met for one job."""
+    async with running(file, tmp_path / "logs") as (_, caller):
+        for name in ("other", "shop"):
+            await begun(Caller(caller.url, caller.session, name))
+    store: Any = Unreadable(file)
+    async with running(store, tmp_path / "logs") as (_, caller):
+        asked = [{"job": job, "task": 1, "life": 1} for job in ("shop", "other", "shop")]
+        told = await caller.ask("POST", "/grants", {"grants": asked})
+        assert [it["status"] for it in told.json["answers"]] == [500, 200, 500]
+        assert "KeyError" in (await failed(caller))["shop"]["why"]
+        assert await internal_errors(caller) >= 1
 
 
 async def test_the_poller_goes_on_whatever_a_job_raises(file: Store, tmp_path: Path) -> None:
