@@ -433,7 +433,7 @@ class Job:
         """Logs the last calls that are stored, if that was not done, and stores and logs that the
         table is restored. Returns the new version and the line."""
         assert self._log is not None
-        lacking = await asyncio.to_thread(self._log.lacking, row.lines)
+        lacking = await asyncio.to_thread(self._log.lacking, row.lines)  # which reads a day or two of lines
         if lacking:
             self._log.append(*lacking)
         value = json.loads(stored.kept)["value"]
