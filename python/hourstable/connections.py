@@ -192,7 +192,7 @@ class Door(asyncio.Protocol):
     def _is_late(self) -> None:
         self._timer = None
         if self._limit is None:
-            self._connections.turned("first request")
+            self._connections.turned("first-request")
         self.abort()
 
     def abort(self) -> None:

@@ -196,6 +196,12 @@ class Plane:
         """Reads what is stored of a job. One that fails keeps no other from being served."""
         try:
             job = (await self.followed(name)).job
+        except NoSuchJob:
+            self.failures.forget(name)
+            return
+        except Exception:
+            return  # it is noted
+        try:
             await job.refresh()
         except NoSuchJob:
             self.failures.forget(name)
@@ -220,15 +226,17 @@ class Plane:
         return Job(name, self.store, self.settings, self.tickets, self.metrics)
 
     async def followed(self, name: str) -> Followed:
-        """Returns a job. Raises NoSuchJob, and what loading it raises."""
+        """Returns a job. Raises NoSuchJob, and what loading it raises, which is noted."""
         found = self.jobs.get(name)
         if found is None:
             job = self._job(name)
             try:
                 await job.load()
                 job.lives = await self.store.lives(name)
-            except BaseException:
+            except BaseException as error:
                 job.close()
+                if isinstance(error, Exception) and not isinstance(error, NoSuchJob):
+                    self._fail(name, "read", error)
                 raise
             found = self.jobs.setdefault(name, Followed(job, Loads(), {}, {}))
             if found.job is not job:
@@ -612,7 +620,7 @@ class Plane:
             if not isinstance(asked, dict):
                 raise Malformed("a grant is no object")
             return await self.begin_grant(name_in(asked.get("job")), *asker_in(asked))
-        except ANSWERED as error:
+        except Exception as error:  # of this one alone
             return error
 
     def _grant_part(
@@ -627,8 +635,12 @@ class Plane:
             status, body = (200, made.result) if made.refusal is None else (409, refused(made))
             reading = b"null" if made.at is None else b"%d" % made.at
             return b'{"status":%d,"reading":%s,"body":%s}' % (status, reading, body)
-        except ANSWERED as error:
-            failed = self._failure_of(request, error)
+        except Exception as error:
+            if isinstance(error, ANSWERED):
+                failed = self._failure_of(request, error)
+            else:
+                self.supervisor.caught("request", error)
+                failed = failure(500, "an internal error: see the log of the plane")
             return b'{"status":%d,"reading":null,"body":%s}' % (failed.status, failed.body)
 
     async def _post_free(self, request: web.Request) -> web.Response:

@@ -62,9 +62,13 @@ def is_number(value: object) -> bool:
     return isinstance(value, int) and not isinstance(value, bool) and 0 <= value < 1 << 64
 
 
+LAST = b'"last":"'  # in kept values, which have it after their assignments
+
+
 def last_in(kept: bytes) -> int:
     """Returns the last reading of kept values."""
-    return int(json.loads(kept)["value"]["last"])
+    at = kept.rindex(LAST) + len(LAST)
+    return int(kept[at:kept.index(b'"', at)])
 
 
 class Row(NamedTuple):
@@ -429,7 +433,7 @@ class Job:
         """Logs the last calls that are stored, if that was not done, and stores and logs that the
         table is restored. Returns the new version and the line."""
         assert self._log is not None
-        lacking = await asyncio.to_thread(self._log.lacking, row.lines)
+        lacking = await asyncio.to_thread(self._log.lacking, row.lines)  # which reads a day or two of lines
         if lacking:
             self._log.append(*lacking)
         value = json.loads(stored.kept)["value"]

@@ -129,5 +129,5 @@ def process_number(number: int) -> int:
     """Returns the number of a plane or an assigner, below those under which tasks and clients draw tickets. Raises
     ValueError if it is none."""
     if not 0 <= number < PROCESSES:
-        raise ValueError(f"process {number} is not 0 to {PROCESSES - 1}")
+        raise ValueError(f"process {number} is not 0 to {PROCESSES - 1}: tasks and clients have those above")
     return number

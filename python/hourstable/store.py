@@ -169,14 +169,6 @@ def _lives_of(job: str, text: str) -> dict[int, Life]:
     return lives
 
 
-def stored_in(rows: list[Any]) -> Stored | None:
-    """Returns what is stored, from the rows of version, policy, kept values and line."""
-    if not rows:
-        return None
-    version, policy, kept, line = rows[0]
-    return Stored(version, policy, kept.encode(), line)
-
-
 def lives_in(job: str, rows: list[Any]) -> tuple[str, str]:
     """Returns the text of lives from its row, which is what to compare too. Raises NoSuchJob."""
     if not rows:

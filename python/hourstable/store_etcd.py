@@ -11,6 +11,7 @@ from typing import Any
 import aiohttp
 
 from hourstable.store import DEADLINE, Conflict, Damaged, NoSuchJob, Store, Stored, StoreFailed
+from hourstable.store_rows import Rows
 from hourstable.system import SYSTEM, System
 from hourstable.waiting import within
 
@@ -23,6 +24,7 @@ class EtcdStore(Store):
 
     name = "etcd"
     POLICY, TABLE, LIVES = "/hourstable/policy/", "/hourstable/table/", "/hourstable/lives/"
+    ASSIGNMENTS = "/hourstable/assignments/"
 
     def __init__(
         self, members: Sequence[tuple[str, int]], tls: ssl.SSLContext | None = None,
@@ -32,6 +34,7 @@ class EtcdStore(Store):
         scheme = "http" if tls is None else "https"
         self._members = deque(f"{scheme}://{_host(name)}:{port}" for name, port in members)
         self._tls = tls
+        self._rows = Rows()
         self._session: aiohttp.ClientSession | None = None
 
     async def _ask(self, call: str, body: dict[str, Any]) -> dict[str, Any]:
@@ -105,7 +108,7 @@ class EtcdStore(Store):
         return version
 
     async def load(self, job: str) -> Stored | None:
-        keys = [self.TABLE + job, self.POLICY + job]
+        keys = [self.TABLE + job, self.POLICY + job, self.ASSIGNMENTS + job]
         told = await self._read("txn", {
             "success": [{"request_range": {"key": _base64(key)}} for key in keys]
         })
@@ -114,13 +117,14 @@ class EtcdStore(Store):
             return None
         if not found[1]:
             raise Damaged(f"etcd: {job} has no key {self.POLICY}{job}")
-        (table,), (policy,) = found
+        (table,), (policy,) = found[:2]
+        version, assignments = int(table["mod_revision"]), _text(found[2][0]["value"]) if found[2] else None
         try:
             row = json.loads(_text(table["value"]))
-            kept, line = row["kept"].encode(), row["line"]
+            kept, line = self._rows.whole(job, version, row["kept"], assignments), row["line"]
         except (ValueError, KeyError, TypeError, AttributeError) as error:
             raise Damaged(f"etcd: the value of {self.TABLE}{job} cannot be read: {error!r}") from error
-        return Stored(int(table["mod_revision"]), _text(policy["value"]), kept, line)
+        return Stored(version, _text(policy["value"]), kept, line)
 
     async def version(self, job: str) -> int | None:
         body = {"key": _base64(self.TABLE + job), "keys_only": True}
@@ -128,10 +132,14 @@ class EtcdStore(Store):
         return int(found[0]["mod_revision"]) if found else None
 
     async def swap(self, job: str, version: int, kept: bytes, line: str | None) -> int:
-        row = json.dumps({"kept": kept.decode(), "line": line})
-        written = await self._write({self.TABLE + job: row}, self.TABLE + job, version)
+        parts = self._rows.parts(job, kept)
+        row = {self.TABLE + job: json.dumps({"kept": parts.rest, "line": line})}
+        if not self._rows.has(job, version, parts):
+            row[self.ASSIGNMENTS + job] = parts.assignments
+        written = await self._write(row, self.TABLE + job, version)
         if written is None:
             raise Conflict(f"{job} is not of version {version}")
+        self._rows.wrote(job, written, parts)
         return written
 
     async def read_lives(self, job: str) -> tuple[str, Any]:

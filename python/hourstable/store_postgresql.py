@@ -11,8 +11,10 @@ from psycopg.abc import RV, PQGen
 from psycopg_pool import AsyncConnectionPool, PoolClosed, PoolTimeout
 
 from hourstable.store import (
-    DEADLINE, Conflict, Store, Stored, StoreFailed, after_swap, lives_in, password_in, stored_in, without,
+    DEADLINE, Conflict, Store, Stored, StoreFailed, after_swap, lives_in, password_in, without,
 )
+from hourstable.store_rows import Rows as RowsOfJobs
+from hourstable.store_rows import stored_in
 from hourstable.system import SYSTEM, System
 
 CONNECTIONS = 32  # of a store at most
@@ -119,6 +121,7 @@ class PostgresqlStore(Store):
     ) -> None:
         super().__init__(deadline, system)
         self._url, self._password = url, password_in(url)
+        self._rows = RowsOfJobs()
         self._settings: dict[str, Any] = {
             "autocommit": True, "connect_timeout": max(1, round(deadline)),
             "options": f"-c synchronous_commit=on -c statement_timeout={round(deadline * 1000)}",
@@ -141,8 +144,16 @@ class PostgresqlStore(Store):
                 await connection.execute(
                     "CREATE TABLE IF NOT EXISTS hourstable_jobs (job text PRIMARY KEY,"
                     " version bigint NOT NULL, policy text NOT NULL, kept text NOT NULL,"
-                    " line text, lives text NOT NULL)"
+                    " line text, lives text NOT NULL, assignments text)"
                 )
+                found = await connection.execute(
+                    "SELECT 1 FROM information_schema.columns"
+                    " WHERE table_name = 'hourstable_jobs' AND column_name = 'assignments'"
+                )
+                if await found.fetchone() is None:  # a version up to 1.0 made it; this waits for all who use it
+                    await connection.execute(
+                        "ALTER TABLE hourstable_jobs ADD COLUMN IF NOT EXISTS assignments text"
+                    )
         except psycopg.Error as error:
             raise self._failed(error) from None
 
@@ -205,25 +216,29 @@ class PostgresqlStore(Store):
         return [job for job, in rows]
 
     async def create(self, job: str, policy: str, kept: bytes) -> int:
-        insert = "INSERT INTO hourstable_jobs VALUES (%s, 1, %s, %s, NULL, '{}')"
+        insert = "INSERT INTO hourstable_jobs VALUES (%s, 1, %s, %s, NULL, '{}', NULL)"
         await self._run(insert, job, policy, kept.decode())
         return 1
 
     async def load(self, job: str) -> Stored | None:
-        select = "SELECT version, policy, kept, line FROM hourstable_jobs WHERE job = %s"
-        return stored_in(await self._read(select, job))
+        select = "SELECT version, policy, kept, line, assignments FROM hourstable_jobs WHERE job = %s"
+        return stored_in(self._rows, job, await self._read(select, job))
 
     async def version(self, job: str) -> int | None:
         rows = await self._read("SELECT version FROM hourstable_jobs WHERE job = %s", job)
         return int(rows[0][0]) if rows else None
 
     async def swap(self, job: str, version: int, kept: bytes, line: str | None) -> int:
-        _, count = await self._run(
-            "UPDATE hourstable_jobs SET version = version + 1, kept = %s, line = %s"
+        parts = self._rows.parts(job, kept)
+        also, more = ("", ()) if self._rows.has(job, version, parts) else (", assignments = %s", (parts.assignments,))
+        _, count = await self._run(  # a long text that is not set is not written again
+            f"UPDATE hourstable_jobs SET version = version + 1, kept = %s, line = %s{also}"
             " WHERE job = %s AND version = %s",
-            kept.decode(), line, job, version,
+            parts.rest, line, *more, job, version,
         )
-        return after_swap(job, version, count)
+        written = after_swap(job, version, count)
+        self._rows.wrote(job, written, parts)
+        return written
 
     async def read_lives(self, job: str) -> tuple[str, Any]:
         select = "SELECT lives FROM hourstable_jobs WHERE job = %s"

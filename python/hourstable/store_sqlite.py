@@ -9,9 +9,8 @@ from concurrent.futures import ThreadPoolExecutor
 from contextlib import suppress
 from typing import Any, NamedTuple, TypeVar
 
-from hourstable.store import (
-    DEADLINE, Conflict, Store, Stored, StoreFailed, after_swap, lives_in, stored_in,
-)
+from hourstable.store import DEADLINE, Conflict, Store, Stored, StoreFailed, after_swap, lives_in
+from hourstable.store_rows import Rows, stored_in
 from hourstable.system import SYSTEM, System
 
 T = TypeVar("T")
@@ -23,6 +22,7 @@ class Write(NamedTuple):
     statement: str
     values: tuple[object, ...]
     answer: "asyncio.Future[int]"
+    then: tuple[str, tuple[object, ...]] | None = None  # a statement for the same transaction, if a row was written
 
 
 class Connected:
@@ -76,6 +76,7 @@ class SqliteStore(Store):
     ) -> None:
         super().__init__(deadline, system)
         self.reads, self.writes = (Connected(path, deadline) for _ in range(2))
+        self._rows = Rows()
         self._waiting: deque[Write] = deque()
         self._working: asyncio.Task[None] | None = None  # while writes wait
 
@@ -91,9 +92,11 @@ class SqliteStore(Store):
             self.reads.run(lambda connection: connection.execute(statement, values).fetchall())
         )
 
-    async def _write(self, statement: str, *values: object) -> int:
+    async def _write(
+        self, statement: str, *values: object, then: tuple[str, tuple[object, ...]] | None = None
+    ) -> int:
         """Returns how many rows were written. Raises Conflict at a row that is there already."""
-        mine = Write(statement, values, asyncio.get_running_loop().create_future())
+        mine = Write(statement, values, asyncio.get_running_loop().create_future(), then)
         self._waiting.append(mine)
         if self._working is None:
             self._working = asyncio.create_task(self._write_waiting())
@@ -124,20 +127,28 @@ class SqliteStore(Store):
         return 1
 
     async def load(self, job: str) -> Stored | None:
-        select = "SELECT version, policy, kept, line FROM jobs WHERE job = ?"
-        return stored_in(await self._read(select, job))
+        rows = await self._read(
+            "SELECT version, policy, kept, line, (SELECT parts FROM assignments WHERE assignments.job = jobs.job)"
+            " FROM jobs WHERE job = ?", job,
+        )
+        return stored_in(self._rows, job, rows)
 
     async def version(self, job: str) -> int | None:
         rows = await self._read("SELECT version FROM jobs WHERE job = ?", job)
         return int(rows[0][0]) if rows else None
 
     async def swap(self, job: str, version: int, kept: bytes, line: str | None) -> int:
+        parts = self._rows.parts(job, kept)
+        is_there = self._rows.has(job, version, parts)
         count = await self._write(
             "UPDATE jobs SET version = version + 1, kept = ?, line = ?"
             " WHERE job = ? AND version = ?",
-            kept.decode(), line, job, version,
+            parts.rest, line, job, version,
+            then=None if is_there else ("REPLACE INTO assignments VALUES (?, ?)", (job, parts.assignments)),
         )
-        return after_swap(job, version, count)
+        written = after_swap(job, version, count)
+        self._rows.wrote(job, written, parts)
+        return written
 
     async def read_lives(self, job: str) -> tuple[str, Any]:
         return lives_in(job, await self._read("SELECT lives FROM jobs WHERE job = ?", job))
@@ -173,6 +184,9 @@ def _make_table(connection: sqlite3.Connection) -> None:
         "CREATE TABLE IF NOT EXISTS jobs (job TEXT PRIMARY KEY, version INTEGER NOT NULL,"
         " policy TEXT NOT NULL, kept TEXT NOT NULL, line TEXT, lives TEXT NOT NULL) STRICT"
     )
+    connection.execute(
+        "CREATE TABLE IF NOT EXISTS assignments (job TEXT PRIMARY KEY, parts TEXT NOT NULL) STRICT"
+    )
 
 
 def _written(connection: sqlite3.Connection, writes: list[Write]) -> list[int | Exception]:
@@ -194,6 +208,9 @@ def _tried(connection: sqlite3.Connection, write: Write) -> int | Exception:
     if write.answer.cancelled():
         return 0
     try:
-        return connection.execute(write.statement, write.values).rowcount
+        count = connection.execute(write.statement, write.values).rowcount
+        if count and write.then is not None:
+            connection.execute(*write.then)
+        return count
     except sqlite3.IntegrityError as error:
         return Conflict(str(error))

@@ -85,7 +85,7 @@ MUTANTS = (
     Mutant("no-lock", "jobs.py", ((
         "                async with self._lock:\n                    together = self._next_together()",
         "                if True:\n                    together = self._next_together()",
-    ),), seeds="31"),
+    ),), seeds="1"),
     Mutant("observe-nothing", "calls.py", (
         ("            self.tickets.observe_text(headers.get(HEADER))\n", "            pass\n"),
     ), seeds="2"),
@@ -133,7 +133,7 @@ MUTANTS = (
         "                looking = self.supervisor.spawn(\"look_at\", self._look_at(name))\n"
         "                looking.add_done_callback(partial(self._looked, name))",
         "                await self._look_at(name)",
-    ),), seeds="24"),
+    ),), seeds="24,35,56,83,86,94"),
     Mutant("policy-from-anything", "replies.py", (
         ("    answer.value()\n    return answer.status != 409", "    return answer.status != 409"),
     ), why_not="an odd answer also ends the tasks, which then create the job"),

@@ -103,7 +103,7 @@ async def test_silent_connections_deny_no_caller_that_authenticated(file: Store,
                 assert b"200" not in await one.end()
         assert await new_caller_is_answered(caller)
         text = (await caller.ask("GET", "/metrics", None, KNOWN)).body.decode()
-        assert 'hourstable_limited_total{limit="first request"} 12.0' in text
+        assert 'hourstable_limited_total{limit="first-request"} 12.0' in text
 
 
 @pytest.mark.parametrize("sent", [

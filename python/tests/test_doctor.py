@@ -196,6 +196,13 @@ async def test_a_job_that_fails(tmp_path: Path, capfd: Said) -> None:
                    for line in lines)
 
 
+def test_the_numbers_of_planes_are_below_those_of_tasks(capfd: Said, tmp_path: Path) -> None:
+    words = ["--store", f"sqlite:{tmp_path}/jobs", "--logs", f"{tmp_path}/logs", "--listen", "127.0.0.1:0"]
+    assert main(["control", *words, "--process", "64"]) == 2
+    assert "process 64 is not 0 to 63: tasks and clients have those above" in capfd.readouterr().err
+    assert main(["assigner", "--control", "http://127.0.0.1:1", "--assigner", "1", "--process", "64"]) == 2
+
+
 def test_a_plane_with_certificates(certificates: Path, capfd: Said) -> None:
     words = [sys.executable, "-m", "hourstable", "control", "--store", f"sqlite:{certificates}/jobs"]
     words += ["--logs", f"{certificates}/logs", "--listen", "127.0.0.1:0", "--tls-cert", f"{certificates}/plane.pem"]

@@ -6,8 +6,9 @@ import json
 import mmap
 import os
 import sqlite3
+import threading
 from base64 import b64encode
-from collections.abc import Awaitable, Callable
+from collections.abc import Awaitable, Callable, Sequence
 from pathlib import Path
 from typing import Any
 
@@ -18,11 +19,12 @@ import needed
 
 needed.library()
 
+from hourstable import logs  # noqa: E402
 from hourstable.failures import Failures  # noqa: E402
 from hourstable.limits import Limits  # noqa: E402
 from hourstable.service import ControlPlane  # noqa: E402
 from hourstable.state import state_folder  # noqa: E402
-from hourstable.store import Damaged, Life, Store, StoreFailed  # noqa: E402
+from hourstable.store import Damaged, Life, Store, Stored, StoreFailed  # noqa: E402
 from hourstable.store_etcd import EtcdStore  # noqa: E402
 from hourstable.system import System  # noqa: E402
 from hourstable.tickets import Tickets, real_milliseconds  # noqa: E402
@@ -127,6 +129,25 @@ async def test_a_job_whose_log_cannot_be_opened_is_not_stored(
         await other_job_is_served(caller)
         system.word = ""
         assert (await caller.create()).status == 201
+
+
+async def test_a_log_that_cannot_be_opened_after_the_job_is_stored(file: Store, tmp_path: Path) -> None:
+    """The job is there, shown as failed, and well once the log can be opened: the same for a plane that is alone."""
+    system = Refusing()
+    async with running(file, tmp_path / "logs", system=system) as (_, caller):
+        await begun(Caller(caller.url, caller.session, "other"))
+        system.word = ".jsonl"
+        assert (await caller.create()).status == 503
+        assert await file.jobs() == ["other", "shop"]
+        assert list(await failed(caller)) == ["shop"]
+        await other_job_is_served(caller)
+        system.word = ""
+
+        async def is_well() -> bool:
+            return await failed(caller) == {}
+
+        await until(is_well)
+        assert (await caller.create()).status == 200
 
 
 async def test_a_file_where_the_folder_of_a_job_should_be(file: Store, tmp_path: Path) -> None:
@@ -358,6 +379,28 @@ async def test_a_job_that_cannot_be_loaded_leaves_no_file_open(file: Store, tmp_
         await until(are_open)
 
 
+async def test_old_logs_are_read_beside_the_loop(
+    file: Store, tmp_path: Path, monkeypatch: pytest.MonkeyPatch
+) -> None:
+    """A plane that takes a job over looks for lines in days of logs, and answers others meanwhile."""
+    async with running(file, tmp_path / "logs") as (_, caller):
+        await begun(caller)
+    goes_on, waited, lacking = threading.Event(), list[bool](), logs.Log.lacking
+
+    def slowly(self: logs.Log, lines: Sequence[str]) -> list[str]:
+        waited.append(goes_on.wait(20))
+        return lacking(self, lines)
+
+    monkeypatch.setattr(logs.Log, "lacking", slowly)
+    async with running(file, tmp_path / "logs") as (_, caller):
+        granting = asyncio.create_task(caller.grant(1))
+        await asyncio.sleep(0.5)
+        assert (await caller.ask("GET", "/healthz")).status == 200
+        goes_on.set()
+        assert (await granting).status == 200
+    assert waited == [True]
+
+
 class Surprising:
     """A store of which one job raises what nobody expects."""
 
@@ -371,6 +414,29 @@ class Surprising:
         if job == "shop":
             raise KeyError("what nobody expects")
         return await self._inner.version(job)
+
+
+class Unreadable(Surprising):
+    """A store that raises what nobody expects when one job is loaded."""
+
+    async def load(self, job: str) -> Stored | None:
+        if job == "shop":
+            raise KeyError("what nobody expects")
+        return await self._inner.load(job)
+
+
+async def test_several_grants_of_which_one_fails(file: Store, tmp_path: Path) -> None:
+    """Each is answered by itself, also if what nobody expects is met for one job."""
+    async with running(file, tmp_path / "logs") as (_, caller):
+        for name in ("other", "shop"):
+            await begun(Caller(caller.url, caller.session, name))
+    store: Any = Unreadable(file)
+    async with running(store, tmp_path / "logs") as (_, caller):
+        asked = [{"job": job, "task": 1, "life": 1} for job in ("shop", "other", "shop")]
+        told = await caller.ask("POST", "/grants", {"grants": asked})
+        assert [it["status"] for it in told.json["answers"]] == [500, 200, 500]
+        assert "KeyError" in (await failed(caller))["shop"]["why"]
+        assert await internal_errors(caller) >= 1
 
 
 async def test_the_poller_goes_on_whatever_a_job_raises(file: Store, tmp_path: Path) -> None:
