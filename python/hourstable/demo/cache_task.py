@@ -119,6 +119,16 @@ class Cache:
         return web.Response(body=self.task.metrics.text(), content_type="text/plain")
 
 
+def lose(cache: Cache, ranges: Ranges, part: float) -> None:
+    cache.forget(ranges)
+    fail_at_times(part)
+
+
+def fail_at_times(part: float) -> None:
+    if random.random() < part:
+        raise RuntimeError("a callback fails, as it was told to")
+
+
 async def healthy(_: web.Request) -> web.Response:
     return web.Response(text="ok")
 
@@ -148,7 +158,8 @@ async def run(words: argparse.Namespace) -> None:
         oldest=words.oldest,
         patience=0.3,
         report=2.0,
-        on_lose=lambda ranges, deadline: cache.forget(ranges),
+        on_gain=lambda _: fail_at_times(words.fail),
+        on_lose=lambda ranges, _: lose(cache, ranges, words.fail),
     )
     spans = Spans(folder / f"spans-{words.task}.jsonl", words.task)
     cache = Cache(task, Shelf(folder / "shelf", f"task-{words.task}"), spans, words.work)
@@ -195,6 +206,7 @@ def main() -> None:
     parser.add_argument("--oldest", type=int, help="ticks")
     parser.add_argument("--tickets", choices=["follow", "time"], default="follow")
     parser.add_argument("--work", type=float, default=0.0, help="milliseconds of a request")
+    parser.add_argument("--fail", type=float, default=0.0, help="the part of callbacks that raise, for tests")
     words = parser.parse_args()
     logging.basicConfig(level=logging.INFO, format="%(asctime)s %(name)s %(message)s")
     asyncio.run(run(words))
