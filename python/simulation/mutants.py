@@ -133,7 +133,7 @@ MUTANTS = (
         "                looking = self.supervisor.spawn(\"look_at\", self._look_at(name))\n"
         "                looking.add_done_callback(partial(self._looked, name))",
         "                await self._look_at(name)",
-    ),), seeds="35,56,83,86,94"),
+    ),), seeds="24"),
     Mutant("policy-from-anything", "task.py", (
         ("        if not _is_object(answer.body):", "        if False:"),
     ), why_not="an odd answer also ends the tasks, which then create the job"),
