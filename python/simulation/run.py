@@ -19,7 +19,7 @@ from .trace import Trace, take_logs
 from .world import SECOND, World
 
 MAY_EXIT = ("None", "OSError", "BlockingIOError", "StoreFailed")  # None: as it was asked to
-MOST_BEHIND = 3  # seconds by which a plane may show an older generation than another one
+MOST_BEHIND = 2  # seconds by which a plane may show an older generation than another one
 QUIET_BOUND = 2.0  # seconds for which a key that moves may be denied: blocks that are open on it have one to end
 FAILOVER_BOUND = 1.0  # seconds for which a key that stays may be denied when one of two planes is lost
 CHECKS = (
