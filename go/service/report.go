@@ -1,0 +1,125 @@
+package service
+
+import (
+	"context"
+	"encoding/json"
+	"errors"
+	"fmt"
+	"net/http"
+	"sort"
+	"time"
+
+	"hourstable"
+)
+
+// notice notices which keys the task may serve, and tells of gains and losses.
+func (t *Task) notice() {
+	held := t.life()
+	var live []hourstable.Range
+	if held != nil {
+		if at, err := held.read(); err == nil {
+			live = held.live(at)
+		}
+	}
+	t.mutex.Lock()
+	gained, lost := minus(live, t.served), minus(t.served, live)
+	t.served = live
+	t.mutex.Unlock()
+	if len(lost) > 0 && t.config.OnLose != nil {
+		go t.tellLost(context.Background(), lost, 0)
+	}
+	if len(gained) > 0 && t.config.OnGain != nil {
+		go t.config.OnGain(gained)
+	}
+}
+
+// report reports how many requests each part of the keys had, and why keys were
+// denied.
+func (t *Task) report(ctx context.Context) error {
+	for {
+		if err := pause(ctx, t.config.Report, nil); err != nil {
+			return err
+		}
+		body, err := json.Marshal(t.told())
+		if err != nil {
+			return err
+		}
+		_, err = t.control.call(ctx, http.MethodPost, "/loads", body, t.control.timeout)
+		if errors.Is(err, ErrUnreachable) {
+			t.countUnreachable(err)
+		} else if err != nil {
+			return err
+		}
+	}
+}
+
+// told returns what a report says, and begins to count loads anew.
+func (t *Task) told() map[string]any {
+	t.mutex.Lock()
+	defer t.mutex.Unlock()
+	parts := make([]uint64, 0, len(t.loads))
+	for part := range t.loads {
+		parts = append(parts, part)
+	}
+	sort.Slice(parts, func(one, other int) bool { return parts[one] < parts[other] })
+	width := keys >> loadBits
+	loads := make([][3]any, 0, len(parts))
+	for _, part := range parts {
+		first, end := fmt.Sprint(part*width), fmt.Sprint((part+1)*width)
+		loads = append(loads, [3]any{first, end, t.loads[part]})
+	}
+	t.loads = map[uint64]uint64{}
+	made := map[string]any{
+		"task": t.config.Task, "loads": loads, "denied": t.counts.Denied, "clock_behind": t.counts.ClockBehind,
+	}
+	made["denied"] = copied(t.counts.Denied)
+	if t.leases != nil {
+		if left, err := t.leases.slicelet.CallsLeft(); err == nil {
+			made["calls_left"] = left
+		}
+	}
+	return made
+}
+
+func (t *Task) noteBehind(why error) {
+	held := t.life()
+	if held == nil {
+		return
+	}
+	_, sampled := held.state()
+	t.mutex.Lock()
+	isNew := sampled && !t.isBehind
+	t.isBehind = t.isBehind || isNew
+	t.mutex.Unlock()
+	if isNew {
+		t.countBehind()
+		t.config.Logger.Warn("a task serves nothing", "task", t.config.Task, "why", why)
+	}
+}
+
+func (t *Task) countBehind() {
+	t.mutex.Lock()
+	defer t.mutex.Unlock()
+	t.counts.ClockBehind++
+}
+
+func (t *Task) countUnreachable(why error) {
+	t.mutex.Lock()
+	t.counts.Unreachable++
+	t.mutex.Unlock()
+	t.config.Logger.Info("no control plane did a call", "task", t.config.Task, "why", why)
+}
+
+// waitFor counts a call that no plane did, and returns how long to wait; or the error
+// if no other call helps.
+func (t *Task) waitFor(err error, failures *backoff) (time.Duration, error) {
+	wait, err := waitOf(err, failures)
+	if err == nil {
+		t.countUnreachable(ErrUnreachable)
+	}
+	return wait, err
+}
+
+func (t *Task) failures() *backoff {
+	return &backoff{least: 50 * time.Millisecond, most: t.control.timeout}
+}
