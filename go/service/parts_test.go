@@ -91,18 +91,6 @@ func TestTicketsOutlastAProcess(t *testing.T) {
 	}
 }
 
-func TestTicketsThatAreNotObserved(t *testing.T) {
-	from, _ := openTickets(64, "")
-	for _, text := range []string{"-1", "x", "18446744073709551616", "18446744073709551615"} {
-		if from.observe(text) == nil {
-			t.Errorf("observed %s", text)
-		}
-	}
-	if drawn(t, from)>>8 != 1 {
-		t.Error("what was not observed counts")
-	}
-}
-
 func TestLogs(t *testing.T) {
 	folder := t.TempDir()
 	path := filepath.Join(folder, "task-1."+utcDay()+".jsonl")

@@ -57,7 +57,7 @@ func NewRouter(config RouterConfig) (*Router, error) {
 		config: config, clerk: clerk, underway: map[uint64]int{}, changed: make(chan struct{}),
 		control: &control{
 			job: config.Job, secret: config.Secret, client: config.Client, tickets: drawn,
-			local: hourstable.BoottimeTicks, timeout: usualTimeout, urls: trimmed(config.Control),
+			local: hourstable.LocalTicks, timeout: usualTimeout, urls: trimmed(config.Control),
 		},
 	}, nil
 }

@@ -33,7 +33,7 @@ type TaskConfig struct {
 	Secret string
 	Client *http.Client // http.DefaultClient if nil
 	Logger Logger
-	Drift  hourstable.Drift // 201 in 1,000,000 with a grain of 2 if zero
+	Drift  hourstable.Drift // 1,001 in 1,000,000 with a grain of 2 if zero
 	Oldest uint64           // ticks without an answer of the table; nine tenths of a guard lease if 0
 
 	// OnGain is told of slice keys that the task may serve from now on, and OnLose of
@@ -88,7 +88,7 @@ func NewTask(config TaskConfig) (*Task, error) {
 		config.Client = http.DefaultClient
 	}
 	if config.Drift == (hourstable.Drift{}) {
-		config.Drift = hourstable.Drift{Extra: 201, Per: 1_000_000, Grain: 2}
+		config.Drift = hourstable.Drift{Extra: 1001, Per: 1_000_000, Grain: 2}
 	}
 	if config.Patience == 0 {
 		config.Patience = time.Second
@@ -97,7 +97,7 @@ func NewTask(config TaskConfig) (*Task, error) {
 		config.Report = 5 * time.Second
 	}
 	if config.local == nil {
-		config.local = hourstable.BoottimeTicks
+		config.local = hourstable.LocalTicks
 	}
 	config.Logger = loggerOr(config.Logger)
 	folder := filepath.Join(config.Logs, config.Job)

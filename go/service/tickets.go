@@ -6,9 +6,9 @@ import (
 	"fmt"
 	"os"
 	"strconv"
+	"strings"
 	"sync"
 	"syscall"
-	"time"
 )
 
 const (
@@ -16,7 +16,7 @@ const (
 	counterBits = 8
 	places      = uint64(1) << 56
 	aheadPlaces = uint64(10_000) << counterBits // by which the file is ahead of the places drawn
-	day         = 24 * time.Hour
+	mostSeen    = uint64(1) << 47               // milliseconds of a ticket that is observed, in the year 6429
 )
 
 // The file of tickets is that of the package in Python.
@@ -39,6 +39,8 @@ type tickets struct {
 	last    uint64
 	file    *os.File
 	memory  []byte
+	passed  uint64 // tickets that were not observed
+	unkept  uint64 // times that the disk did not take the places
 }
 
 // openTickets opens the file of a process, which is locked: no other process draws
@@ -48,7 +50,7 @@ func openTickets(process uint8, path string) (*tickets, error) {
 	if path == "" {
 		return made, nil
 	}
-	file, err := os.OpenFile(path, os.O_RDWR|os.O_CREATE, 0o644)
+	file, err := os.OpenFile(path, os.O_RDWR|os.O_CREATE, 0o600)
 	if err != nil {
 		return nil, err
 	}
@@ -110,7 +112,9 @@ func (t *tickets) number(at int) uint64 { return binary.LittleEndian.Uint64(t.me
 
 func (t *tickets) put(at int, number uint64) { binary.LittleEndian.PutUint64(t.memory[at:], number) }
 
-// draw returns a ticket above all that were drawn or observed before.
+// draw returns a ticket above all that were drawn or observed before. A disk that
+// does not take the places is counted, and stops nobody: a crash of the machine may
+// then lose the order of the last tickets.
 func (t *tickets) draw() (uint64, error) {
 	t.mutex.Lock()
 	defer t.mutex.Unlock()
@@ -121,8 +125,8 @@ func (t *tickets) draw() (uint64, error) {
 	if t.memory != nil {
 		if place >= t.number(ceilingAt) {
 			t.put(ceilingAt, place+aheadPlaces+1)
-			if err := t.file.Sync(); err != nil {
-				return 0, err
+			if t.file.Sync() != nil {
+				t.unkept++
 			}
 		}
 		t.put(lastAt, place)
@@ -131,24 +135,33 @@ func (t *tickets) draw() (uint64, error) {
 	return place<<processBits | t.process, nil
 }
 
-// observe takes the ticket in the header of an answer, before its effects draw one.
+// observe takes the ticket in the header of an answer, before its effects draw one. A
+// ticket that no clock shows is not observed, and counted: it would use up the tickets
+// of all. The real time of this host does not matter, as it may be the wrong one.
 func (t *tickets) observe(text string) error {
 	if text == "" {
 		return nil
 	}
-	ticket, err := strconv.ParseUint(text, 10, 64)
-	if err != nil {
+	if strings.Trim(text, "0123456789") != "" {
 		return fmt.Errorf("%.40q is no ticket", text)
 	}
-	if ticket>>(processBits+counterBits) > uint64(time.Now().Add(day).UnixMilli()) {
-		return fmt.Errorf("ticket %d is more than a day ahead", ticket)
-	}
+	ticket, err := strconv.ParseUint(text, 10, 64)
 	t.mutex.Lock()
 	defer t.mutex.Unlock()
-	if place := ticket >> processBits; place > t.last {
+	if err != nil || ticket>>(processBits+counterBits) >= mostSeen {
+		t.passed++
+	} else if place := ticket >> processBits; place > t.last {
 		t.last = place
 	}
 	return nil
+}
+
+// counts returns how many tickets were not observed, and how often the disk did not
+// take the places.
+func (t *tickets) counts() (passed, unkept uint64) {
+	t.mutex.Lock()
+	defer t.mutex.Unlock()
+	return t.passed, t.unkept
 }
 
 func (t *tickets) close() {

@@ -1,0 +1,79 @@
+package service
+
+import (
+	"fmt"
+	"math"
+	"path/filepath"
+	"testing"
+	"time"
+
+	"hourstable"
+)
+
+func TestTicketsThatAreNotObserved(t *testing.T) {
+	from, _ := openTickets(64, "")
+	for _, text := range []string{"-1", "x", "7x"} {
+		if from.observe(text) == nil {
+			t.Errorf("observed %s", text)
+		}
+	}
+	// Of 2^47 ms and more, and of more than 64 bits: nobody is refused for them.
+	for _, text := range []string{"9223372036854775808", "18446744073709551615", "18446744073709551616"} {
+		if err := from.observe(text); err != nil {
+			t.Error(err)
+		}
+	}
+	if drawn(t, from)>>8 != 1 {
+		t.Error("what was not observed counts")
+	}
+	if passed, _ := from.counts(); passed != 3 {
+		t.Errorf("%d tickets were counted", passed)
+	}
+}
+
+// The real time of a plane, or of this host, may be days off.
+func TestTicketsOfAPlaneThatIsAhead(t *testing.T) {
+	from, _ := openTickets(64, "")
+	ahead := uint64(time.Now().Add(48*time.Hour).UnixMilli()) << 16
+	for _, ticket := range []uint64{ahead, math.MaxInt64} { // the last one is the greatest below 2^47 ms
+		if err := from.observe(fmt.Sprint(ticket)); err != nil {
+			t.Fatal(err)
+		}
+		if after := drawn(t, from); after <= ticket {
+			t.Errorf("%d was drawn after %d", after, ticket)
+		}
+	}
+}
+
+func TestADiskThatDoesNotTakeTickets(t *testing.T) {
+	from, err := openTickets(64, filepath.Join(t.TempDir(), "task-1.ticket"))
+	if err != nil {
+		t.Fatal(err)
+	}
+	from.file.Close() // each sync of it fails
+	first := drawn(t, from)
+	if second := drawn(t, from); second <= first {
+		t.Errorf("%d was drawn after %d", second, first)
+	}
+	if _, unkept := from.counts(); unkept == 0 {
+		t.Error("nothing was counted")
+	}
+}
+
+// The local clock of a task is not slewed.
+func TestTheClockOfATask(t *testing.T) {
+	task, err := NewTask(TaskConfig{Control: []string{"http://127.0.0.1:1"}, Job: "shop", Task: 1, Logs: t.TempDir()})
+	if err != nil {
+		t.Fatal(err)
+	}
+	defer task.tickets.close()
+	if task.config.Drift != (hourstable.Drift{Extra: 1001, Per: 1_000_000, Grain: 2}) {
+		t.Errorf("the drift is %+v", task.config.Drift)
+	}
+	before, _ := hourstable.LocalTicks()
+	now, _ := task.config.local()
+	after, _ := hourstable.LocalTicks()
+	if now < before || now > after {
+		t.Errorf("%d is not from %d to %d", now, before, after)
+	}
+}
