@@ -3,12 +3,15 @@ package service
 import (
 	"bytes"
 	"context"
+	"encoding/json"
 	"errors"
 	"fmt"
 	"io"
+	"math"
 	"net/http"
 	"net/url"
 	"strconv"
+	"strings"
 	"sync"
 	"time"
 )
@@ -19,6 +22,8 @@ const (
 	longestWait   = 30 * time.Second // of a GET that waits
 	usualTimeout  = 5 * time.Second
 	mostBytes     = 1 << 21 // of an answer
+	mostRetries   = 10      // that are saved up
+	callsPerRetry = 10
 )
 
 // control is the control planes of a job, of which one answers at a time. A call
@@ -29,9 +34,54 @@ type control struct {
 	tickets     *tickets
 	local       func() (uint64, error)
 	timeout     time.Duration
+	logger      Logger
 
-	mutex sync.Mutex
-	urls  []string
+	mutex    sync.Mutex
+	urls     []string          // the one that answered last comes first
+	savings  int               // in calls: callsPerRetry of them are a retry
+	troubles map[string]uint64 // of planes, by what they are
+}
+
+func newControl(urls []string, job string) *control {
+	made := &control{
+		job: job, client: http.DefaultClient, timeout: usualTimeout, logger: silent{},
+		savings: mostRetries * callsPerRetry, troubles: map[string]uint64{},
+	}
+	for _, one := range urls {
+		made.urls = append(made.urls, strings.TrimRight(one, "/"))
+	}
+	return made
+}
+
+// checkPlanes returns an error if there is no control plane or a URL is none. It does
+// not say which, as a URL may have a password.
+func checkPlanes(urls []string) error {
+	if len(urls) == 0 {
+		return errors.New("hourstable: there is no control plane")
+	}
+	for at, one := range urls {
+		if it, err := url.Parse(one); err != nil || it.Host == "" {
+			return fmt.Errorf("hourstable: item %d of Control is no URL", at)
+		}
+	}
+	return nil
+}
+
+// shown returns the URL of a plane without its password.
+func shown(plane string) string {
+	it, err := url.Parse(plane)
+	if err != nil {
+		return ""
+	}
+	return it.Redacted()
+}
+
+// request is a call of a job.
+type request struct {
+	method, path string
+	body         []byte
+	timeout      time.Duration      // that of the control planes if 0
+	read         func(answer) error // takes the answer: an error if no control plane answers so
 }
 
 // answer is what a control plane answered with 200 to 204, or 409.
@@ -42,94 +92,184 @@ type answer struct {
 	sent    uint64  // the local reading before the request was sent
 }
 
-// unreached is why a plane did not do a call, and when to ask again.
-type unreached struct {
-	why   error
-	after time.Duration
+// object returns the members of an answer.
+func (a answer) object(members any) error {
+	text := bytes.TrimSpace(a.body)
+	if len(text) == 0 || text[0] != '{' {
+		return fmt.Errorf("%.80q is no object", a.body)
+	}
+	return json.Unmarshal(text, members)
 }
 
-func (u *unreached) Error() string        { return ErrUnreachable.Error() + ": " + u.why.Error() }
-func (u *unreached) Unwrap() error        { return u.why }
-func (u *unreached) Is(target error) bool { return target == ErrUnreachable }
+// unreached is why planes did not do a call, and when to ask again.
+type unreached struct {
+	what      string // connection, answer, or a status
+	why       error
+	after     time.Duration // what the plane asks for
+	isBusy    bool          // a plane is at a limit
+	isMissing bool          // no plane has the job
+}
 
-// call makes a call of the job. The error is that of the context, *Rejected, or
-// ErrUnreachable.
-func (c *control) call(ctx context.Context, method, path string, body []byte, timeout time.Duration) (answer, error) {
-	var failed error = &unreached{why: errors.New("there is no control plane")}
-	for tries := len(c.planes()); tries > 0; tries-- {
-		plane := c.planes()[0]
-		made, err := c.try(ctx, method, plane, path, body, timeout)
-		if !errors.Is(err, ErrUnreachable) {
+func (u *unreached) Error() string { return ErrUnreachable.Error() + ": " + u.why.Error() }
+func (u *unreached) Unwrap() error { return u.why }
+func (u *unreached) Is(target error) bool {
+	return target == ErrUnreachable || target == ErrNoJob && u.isMissing
+}
+
+// wait returns how long to wait before the call is made again; limit is the longest
+// wait, 0 if a plane may ask for a minute.
+func (u *unreached) wait(failures *backoff, limit time.Duration) time.Duration {
+	wait := failures.wait()
+	if u.after > wait {
+		wait = u.after
+	}
+	if limit > 0 && wait > limit {
+		wait = limit
+	}
+	if u.isBusy && wait < time.Second {
+		wait = time.Second
+	}
+	return wait
+}
+
+// call makes a call of the job. The error is that of the context, *unreached, which is
+// ErrUnreachable, or one of this process.
+func (c *control) call(ctx context.Context, asked request) (answer, error) {
+	failed := &unreached{what: "connection", why: errors.New("there is no control plane")}
+	isBusy, missing := false, 0
+	var tried []string
+	for plane := c.next(tried); plane != "" && c.mayAsk(len(tried)); plane = c.next(tried) {
+		made, err := c.try(ctx, plane, asked)
+		if !errors.As(err, &failed) {
 			return made, err
 		}
-		failed = err
-		c.leave(plane)
+		c.leave(plane, failed)
+		isBusy = isBusy || failed.isBusy
+		if failed.what == "404" {
+			missing++
+		}
+		tried = append(tried, plane)
 	}
+	failed.isBusy, failed.isMissing = isBusy, missing > 0 && c.next(tried) == "" && missing == len(tried)
 	return answer{}, failed
 }
 
-func (c *control) planes() []string {
+// next returns the plane that is asked next of those that were not, "" for none.
+func (c *control) next(tried []string) string {
 	c.mutex.Lock()
 	defer c.mutex.Unlock()
-	return append([]string{}, c.urls...)
-}
-
-// leave puts a plane last that did not answer.
-func (c *control) leave(plane string) {
-	c.mutex.Lock()
-	defer c.mutex.Unlock()
-	if c.urls[0] == plane {
-		c.urls = append(c.urls[1:], plane)
+next:
+	for _, plane := range c.urls {
+		for _, other := range tried {
+			if plane == other {
+				continue next
+			}
+		}
+		return plane
 	}
+	return ""
 }
 
-func (c *control) try(
-	ctx context.Context, method, plane, path string, body []byte, timeout time.Duration,
-) (answer, error) {
+// mayAsk says whether a call that was made so often may be made again. There is a
+// retry for each ten calls.
+func (c *control) mayAsk(times int) bool {
+	c.mutex.Lock()
+	defer c.mutex.Unlock()
+	if times == 0 {
+		if c.savings < mostRetries*callsPerRetry {
+			c.savings++
+		}
+		return true
+	}
+	if c.savings < callsPerRetry {
+		return false
+	}
+	c.savings -= callsPerRetry
+	return true
+}
+
+// leave puts a plane last that failed, and counts it. A call that failed beside this
+// one does not bring it back.
+func (c *control) leave(plane string, why *unreached) {
+	c.mutex.Lock()
+	c.troubles[why.what]++
+	if len(c.urls) > 0 && c.urls[0] == plane {
+		c.urls = append(c.urls[1:len(c.urls):len(c.urls)], plane)
+	}
+	c.mutex.Unlock()
+	c.logger.Warn("a control plane did not do a call",
+		"job", c.job, "plane", shown(plane), "why", why.why, "mend", mending(why.what))
+}
+
+// mending returns what an operator does about a failure.
+func mending(what string) string {
+	switch what {
+	case "connection":
+		return "see that the plane runs and is reached from here"
+	case "answer":
+		return "see that the URL is that of a plane, and what stands between"
+	case "401", "403":
+		return "give the secret of the plane, or let a proxy pass it"
+	case "404":
+		return "PUT the job, or correct the URL"
+	case "429":
+		return "see at which limit the plane is"
+	case "500", "502", "503", "504":
+		return "see the log of the plane and its store"
+	}
+	return "run a plane and a client that know each other"
+}
+
+// counts returns how often planes failed, by how.
+func (c *control) counts() map[string]uint64 {
+	c.mutex.Lock()
+	defer c.mutex.Unlock()
+	return copied(c.troubles)
+}
+
+func (c *control) try(ctx context.Context, plane string, asked request) (answer, error) {
+	timeout := asked.timeout
+	if timeout == 0 {
+		timeout = c.timeout
+	}
 	within, cancel := context.WithTimeout(ctx, timeout)
 	defer cancel()
-	made := answer{}
-	response, text, err := c.fetch(within, method, plane+"/jobs/"+url.PathEscape(c.job)+path, body, &made.sent)
-	if err == nil {
-		err = c.tickets.observe(response.Header.Get(ticketHeader))
+	address := plane + "/jobs/" + url.PathEscape(c.job) + asked.path
+	posed, err := http.NewRequestWithContext(within, asked.method, address, bytes.NewReader(asked.body))
+	if err != nil {
+		return answer{}, &unreached{what: "connection", why: err}
 	}
+	sent, err := c.prepare(posed)
+	if err != nil {
+		return answer{}, err
+	}
+	response, text, err := c.fetch(posed)
 	if ctx.Err() != nil {
 		return answer{}, ctx.Err()
 	}
 	if err != nil {
-		return answer{}, &unreached{why: err}
+		return answer{}, &unreached{what: "connection", why: err}
 	}
-	made.status, made.body = response.StatusCode, text
-	if given := response.Header.Get(readingHeader); given != "" {
-		reading, err := strconv.ParseUint(given, 10, 64)
-		if err != nil {
-			return answer{}, &unreached{why: err}
-		}
-		made.reading = &reading
-	}
-	return made, meaning(response, text)
+	return c.taken(response, text, sent, asked)
 }
 
-func (c *control) fetch(
-	ctx context.Context, method, address string, body []byte, sent *uint64,
-) (*http.Response, []byte, error) {
-	request, err := http.NewRequestWithContext(ctx, method, address, bytes.NewReader(body))
-	if err != nil {
-		return nil, nil, err
-	}
+// prepare draws the ticket of a request, and returns the local reading. An error is
+// one of this process.
+func (c *control) prepare(posed *http.Request) (sent uint64, err error) {
 	if c.secret != "" {
-		request.Header.Set("Authorization", "Bearer "+c.secret)
+		posed.Header.Set("Authorization", "Bearer "+c.secret)
 	}
-	request.Header.Set("Content-Type", "application/json")
+	posed.Header.Set("Content-Type", "application/json")
 	ticket, err := c.tickets.draw()
 	if err != nil {
-		return nil, nil, err
+		return 0, err
 	}
-	request.Header.Set(ticketHeader, strconv.FormatUint(ticket, 10))
-	if *sent, err = c.local(); err != nil {
-		return nil, nil, err
-	}
-	response, err := c.client.Do(request)
+	posed.Header.Set(ticketHeader, strconv.FormatUint(ticket, 10))
+	return c.local()
+}
+
+func (c *control) fetch(posed *http.Request) (*http.Response, []byte, error) {
+	response, err := c.client.Do(posed)
 	if err != nil {
 		return nil, nil, err
 	}
@@ -138,32 +278,35 @@ func (c *control) fetch(
 	return response, text, err
 }
 
-// meaning returns what a status means: at a 404 the job may be created later.
-func meaning(response *http.Response, text []byte) error {
-	status := response.StatusCode
-	switch {
-	case status == 404 || status == 429 || status >= 500:
-		seconds, _ := strconv.ParseFloat(response.Header.Get("Retry-After"), 64)
-		after := time.Duration(seconds * float64(time.Second))
-		if after < 0 || after > time.Minute {
-			after = time.Minute
-		}
-		return &unreached{fmt.Errorf("%d %.200s", status, text), after}
-	case status != 409 && status >= 300:
-		return &Rejected{status, fmt.Sprintf("%.200s", text)}
+// taken returns the answer of a response, or what is wrong with it.
+func (c *control) taken(response *http.Response, text []byte, sent uint64, asked request) (answer, error) {
+	if status := response.StatusCode; status >= 300 && status != http.StatusConflict {
+		return answer{}, refusal(response, text)
 	}
-	return nil
+	made := answer{status: response.StatusCode, body: text, sent: sent}
+	err := c.tickets.observe(response.Header.Get(ticketHeader))
+	if given := response.Header.Get(readingHeader); err == nil && given != "" {
+		var reading uint64
+		reading, err = strconv.ParseUint(given, 10, 64)
+		made.reading = &reading
+	}
+	if err == nil && asked.read != nil {
+		err = asked.read(made)
+	}
+	if err != nil {
+		return answer{}, &unreached{what: "answer", why: fmt.Errorf("%d: %w", made.status, err)}
+	}
+	return made, nil
 }
 
-// waitOf returns how long to wait after an error of a call, and the error if no
-// other call helps.
-func waitOf(err error, failures *backoff) (time.Duration, error) {
-	var why *unreached
-	if !errors.As(err, &why) {
-		return 0, err
+// refusal returns what a status says that is none of an answer.
+func refusal(response *http.Response, text []byte) error {
+	after := time.Duration(0)
+	if seconds, err := strconv.ParseFloat(response.Header.Get("Retry-After"), 64); err == nil && seconds > 0 {
+		after = time.Duration(math.Min(seconds, 60) * float64(time.Second))
 	}
-	if wait := failures.wait(); wait > why.after {
-		return wait, nil
+	return &unreached{
+		what: strconv.Itoa(response.StatusCode), why: fmt.Errorf("%d %.200s", response.StatusCode, text), after: after,
+		isBusy: response.StatusCode == http.StatusTooManyRequests,
 	}
-	return why.after, nil
 }

@@ -2,6 +2,7 @@ package service
 
 import (
 	"context"
+	"errors"
 	"net/http"
 	"time"
 
@@ -11,26 +12,26 @@ import (
 // giveUp gives up the lease of a kind, and frees it at the table. Before that, what
 // the task loses by it is told, and answers that run on these keys end.
 func (t *Task) giveUp(ctx context.Context, held *leases, kind hourstable.Kind, isLast bool) error {
-	grant, _ := held.lease(kind)
-	lost := held.lostWithout(kind, isLast)
-	t.move(lost)
-	if len(lost) > 0 {
-		t.leaveKeys(ctx, lost, grant.Ends)
-	}
-	note, err := held.release(kind)
-	t.moved(lost)
+	note, err := t.release(held, kind, isLast)
 	if err != nil {
 		return err
 	}
 	if isLast {
 		return t.free(ctx, note)
 	}
-	go func() {
-		if err := t.free(ctx, note); err != nil && ctx.Err() == nil {
-			t.config.Logger.Warn("a lease was not freed", "task", t.config.Task, "error", err)
-		}
-	}()
+	t.spawnFree(note)
 	return nil
+}
+
+func (t *Task) release(held *leases, kind hourstable.Kind, isLast bool) (note []byte, err error) {
+	grant, _ := held.lease(kind)
+	lost := held.lostWithout(kind, isLast)
+	t.move(lost)
+	defer t.moved(lost)
+	if len(lost) > 0 {
+		t.leaveKeys(lost, grant.Ends)
+	}
+	return held.release(kind)
 }
 
 func (t *Task) move(lost []hourstable.Range) {
@@ -47,9 +48,9 @@ func (t *Task) moved(lost []hourstable.Range) {
 
 // leaveKeys tells that keys are given up, and waits until no answer runs on them,
 // each for the patience of the task.
-func (t *Task) leaveKeys(ctx context.Context, lost []hourstable.Range, ends uint64) {
-	t.tellLost(ctx, lost, ends)
-	within, cancel := context.WithTimeout(ctx, t.config.Patience)
+func (t *Task) leaveKeys(lost []hourstable.Range, ends uint64) {
+	t.tellLost(lost, ends)
+	within, cancel := context.WithTimeout(t.lasting, t.config.Patience)
 	defer cancel()
 	for t.isOpen(lost) {
 		if err := pause(within, t.config.Patience, t.left); err != nil {
@@ -59,21 +60,34 @@ func (t *Task) leaveKeys(ctx context.Context, lost []hourstable.Range, ends uint
 	}
 }
 
-func (t *Task) tellLost(ctx context.Context, lost []hourstable.Range, ends uint64) {
+// tellLost tells the application of a loss, and waits for it as long as the patience of
+// the task is.
+func (t *Task) tellLost(lost []hourstable.Range, ends uint64) {
 	if t.config.OnLose == nil {
 		return
 	}
-	within, cancel := context.WithTimeout(ctx, t.config.Patience)
+	within, cancel := context.WithTimeout(t.lasting, t.config.Patience)
 	told := make(chan struct{})
 	go func() {
 		defer close(told)
 		defer cancel()
-		t.config.OnLose(within, lost, ends)
+		t.supervisor.run("on-lose", func() error {
+			t.config.OnLose(within, lost, ends)
+			return nil
+		})
 	}()
 	select {
 	case <-told:
 	case <-within.Done():
+		t.config.Logger.Warn("OnLose runs longer than the patience of its task", "task", t.config.Task)
 	}
+}
+
+func (t *Task) tellGained(gained []hourstable.Range) {
+	t.supervisor.run("on-gain", func() error {
+		t.config.OnGain(gained)
+		return nil
+	})
 }
 
 func (t *Task) isOpen(lost []hourstable.Range) bool {
@@ -93,23 +107,34 @@ func (t *Task) free(ctx context.Context, note []byte) error {
 	defer cancel()
 	failures := t.failures()
 	for {
-		_, err := t.control.call(within, http.MethodPost, "/free", note, t.control.timeout)
+		_, err := t.control.call(within, request{
+			method: http.MethodPost, path: "/free", body: note,
+			read: func(made answer) error { return made.object(&struct{}{}) },
+		})
 		if err == nil {
 			return nil
 		}
-		wait, err := t.waitFor(err, failures)
-		if err != nil {
-			return err
-		}
-		if err := pause(within, wait, nil); err != nil {
+		if err := t.waitAfter(within, err, failures); err != nil {
 			return err
 		}
 	}
 }
 
+// spawnFree frees a lease while the task goes on.
+func (t *Task) spawnFree(note []byte) {
+	t.supervisor.spawn("free", func() error {
+		err := t.free(t.lasting, note)
+		if errors.Is(err, context.DeadlineExceeded) || errors.Is(err, context.Canceled) {
+			t.config.Logger.Warn("a lease was not freed: it ends by itself", "task", t.config.Task)
+			return nil
+		}
+		return err
+	})
+}
+
 // stopAtEvidence ends the task if a grant shows that a clock breaks its drift. The
 // leases are released first, at the reading that shows it, so that the log has it.
-func (t *Task) stopAtEvidence(ctx context.Context, held *leases, message []byte) error {
+func (t *Task) stopAtEvidence(held *leases, message []byte) error {
 	at, err := held.read()
 	if err != nil {
 		return err
@@ -121,7 +146,7 @@ func (t *Task) stopAtEvidence(ctx context.Context, held *leases, message []byte)
 	t.countBehind()
 	for _, kind := range kinds {
 		if note, err := held.release(kind); err == nil {
-			go t.free(context.Background(), note)
+			t.spawnFree(note)
 		}
 	}
 	t.notice()

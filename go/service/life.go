@@ -2,7 +2,6 @@ package service
 
 import (
 	"context"
-	"encoding/json"
 	"fmt"
 	"net/http"
 
@@ -11,15 +10,23 @@ import (
 
 // beginLife begins a life that was never started, with a clock of its own.
 func (t *Task) beginLife(ctx context.Context) error {
-	path := fmt.Sprintf("/tasks/%d/life", t.config.Task)
-	made, err := t.control.call(ctx, http.MethodPost, path, nil, t.control.timeout)
+	var told struct{ Life, Last uint32 }
+	_, err := t.control.call(ctx, request{
+		method: http.MethodPost, path: fmt.Sprintf("/tasks/%d/life", t.config.Task),
+		read: func(made answer) error {
+			if err := made.object(&told); err != nil {
+				return err
+			}
+			if made.status == http.StatusConflict || told.Life <= told.Last {
+				return fmt.Errorf("%.80q is no life", made.body)
+			}
+			return nil
+		},
+	})
 	if err != nil {
 		return err
 	}
-	var told struct{ Life, Last uint32 }
-	if err := json.Unmarshal(made.body, &told); err != nil {
-		return &unreached{why: err}
-	}
+	t.reached(nil)
 	oldest := t.config.Oldest
 	if oldest == 0 {
 		oldest = t.policy.Guard * 9 / 10
@@ -57,9 +64,30 @@ func (t *Task) endLife(ctx context.Context) error {
 		}
 	}
 	t.notice()
-	t.mutex.Lock()
-	t.leases = nil
-	t.mutex.Unlock()
-	held.slicelet.Close()
+	t.forget(held)
 	return failed
+}
+
+// dropLife ends a life whose slicelet may lack what was answered, or hold a lease that
+// nothing else knows of. Nobody is waited for.
+func (t *Task) dropLife() error {
+	held := t.life()
+	if held == nil {
+		return nil
+	}
+	defer t.notice()
+	defer t.forget(held)
+	for _, kind := range kinds {
+		if note, err := held.release(kind); err == nil {
+			t.spawnFree(note)
+		}
+	}
+	return nil
+}
+
+func (t *Task) forget(held *leases) {
+	t.mutex.Lock()
+	t.leases, t.moving = nil, nil
+	t.mutex.Unlock()
+	held.close()
 }

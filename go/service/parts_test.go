@@ -91,44 +91,6 @@ func TestTicketsOutlastAProcess(t *testing.T) {
 	}
 }
 
-func TestLogs(t *testing.T) {
-	folder := t.TempDir()
-	path := filepath.Join(folder, "task-1."+utcDay()+".jsonl")
-	tell := func(ticket uint64) {
-		t.Helper()
-		log, err := openLog(folder, "task-1", []byte(`{"job":{}}`))
-		if err != nil {
-			t.Fatal(err)
-		}
-		defer log.close()
-		if err := log.tell(ticket, "start", "started 1", map[string]any{"at": 7}); err != nil {
-			t.Fatal(err)
-		}
-	}
-	holds := func(wanted string) {
-		t.Helper()
-		if text, _ := os.ReadFile(path); string(text) != wanted {
-			t.Errorf("%q, not %q", text, wanted)
-		}
-	}
-	line := func(ticket string) string {
-		return `{"at":7,"do":"start","reply":"started 1","ticket":` + ticket + "}\n"
-	}
-	tell(1)
-	holds("{\"job\":{}}\n" + line("1"))
-	text, _ := os.ReadFile(path)
-	os.WriteFile(path, append(text, `{"at":8,"do":"st`...), 0o644) // torn
-	tell(2)
-	holds("{\"job\":{}}\n" + line("1") + line("2"))
-	text, _ = os.ReadFile(path)
-	os.WriteFile(path, text[:len(text)-1], 0o644) // its end is torn
-	tell(3)
-	holds("{\"job\":{}}\n" + line("1") + line("2") + line("3"))
-	if _, err := openLog(folder, "task-1", []byte(`{"job":1}`)); err == nil {
-		t.Error("the log of another job is opened")
-	}
-}
-
 func plane(t *testing.T, handler http.HandlerFunc) string {
 	t.Helper()
 	server := httptest.NewServer(handler)
@@ -138,11 +100,11 @@ func plane(t *testing.T, handler http.HandlerFunc) string {
 
 func controlOf(t *testing.T, urls ...string) *control {
 	t.Helper()
-	from, _ := openTickets(64, "")
-	return &control{
-		job: "shop", secret: "0123456789abcdef", client: http.DefaultClient, tickets: from, urls: urls,
-		local: func() (uint64, error) { return 7, nil }, timeout: time.Second,
-	}
+	made := newControl(urls, "shop")
+	made.secret, made.timeout = "0123456789abcdef", time.Second
+	made.tickets, _ = openTickets(64, "")
+	made.local = func() (uint64, error) { return 7, nil }
+	return made
 }
 
 func TestAnotherPlaneIsAsked(t *testing.T) {
@@ -162,7 +124,7 @@ func TestAnotherPlaneIsAsked(t *testing.T) {
 	})
 	asks := controlOf(t, down, up)
 	for range [2]int{} {
-		made, err := asks.call(context.Background(), "POST", "/grant", nil, time.Second)
+		made, err := asks.call(context.Background(), request{method: "POST", path: "/grant"})
 		if err != nil || made.reading == nil || *made.reading != 12 || made.sent != 7 {
 			t.Error(made, err)
 		}
@@ -173,27 +135,10 @@ func TestAnotherPlaneIsAsked(t *testing.T) {
 	if drawn(t, asks.tickets)>>8 < 262 {
 		t.Error("the ticket of the answer was not observed")
 	}
-	_, err := controlOf(t, down).call(context.Background(), "POST", "/grant", nil, time.Second)
-	wait, failed := waitOf(err, &backoff{least: time.Millisecond, most: time.Millisecond})
-	if !errors.Is(err, ErrUnreachable) || failed != nil || wait != 3*time.Second {
-		t.Error(err, wait, failed)
-	}
-}
-
-func TestWhatAStatusMeans(t *testing.T) {
-	status := 0
-	asks := controlOf(t, plane(t, func(out http.ResponseWriter, _ *http.Request) { out.WriteHeader(status) }))
-	for status = range map[int]bool{404: true, 429: true, 500: true, 503: true} {
-		if _, err := asks.call(context.Background(), "GET", "", nil, time.Second); !errors.Is(err, ErrUnreachable) {
-			t.Error(status, err)
-		}
-	}
-	for _, status = range []int{400, 401, 413} {
-		var rejected *Rejected
-		_, err := asks.call(context.Background(), "GET", "", nil, time.Second)
-		if !errors.As(err, &rejected) || rejected.Status != status {
-			t.Error(status, err)
-		}
+	_, err := controlOf(t, down).call(context.Background(), request{method: "POST", path: "/grant"})
+	var trouble *unreached
+	if !errors.As(err, &trouble) || !errors.Is(err, ErrUnreachable) || trouble.after != 3*time.Second {
+		t.Error(err)
 	}
 }
 
@@ -207,12 +152,13 @@ func TestContextsOfCalls(t *testing.T) {
 		}
 	}))
 	defer close(ended)
-	if _, err := asks.call(context.Background(), "GET", "", nil, 20*time.Millisecond); !errors.Is(err, ErrUnreachable) {
+	_, err := asks.call(context.Background(), request{method: "GET", timeout: 20 * time.Millisecond})
+	if !errors.Is(err, ErrUnreachable) {
 		t.Error("at its limit:", err)
 	}
 	ctx, cancel := context.WithCancel(context.Background())
 	time.AfterFunc(20*time.Millisecond, cancel)
-	if _, err := asks.call(ctx, "GET", "", nil, time.Minute); !errors.Is(err, context.Canceled) {
+	if _, err := asks.call(ctx, request{method: "GET", timeout: time.Minute}); !errors.Is(err, context.Canceled) {
 		t.Error("cancelled:", err)
 	}
 }

@@ -17,23 +17,28 @@ func (t *Task) act(ctx context.Context) error {
 	failures := t.failures()
 	for {
 		wait, err := t.step(ctx)
+		woken := t.woken
+		var trouble *unreached
 		switch {
 		case err == nil:
 			failures.reset()
+		case errors.As(err, &trouble):
+			t.reached(err)
+			if wait = t.waitOf(trouble, failures); trouble.isBusy {
+				woken = nil
+			}
 		case errors.Is(err, ErrClockBehind):
 			t.noteBehind(err)
 			wait = failures.wait()
 		default:
-			if wait, err = t.waitFor(err, failures); err != nil {
-				return err
-			}
+			return err
 		}
 		t.notice()
 		if err := ctx.Err(); err != nil {
 			return err
 		}
 		if wait > 0 {
-			if err := pause(ctx, wait, t.woken); err != nil {
+			if err := pause(ctx, wait, woken); err != nil {
 				return err
 			}
 		}
@@ -43,10 +48,12 @@ func (t *Task) act(ctx context.Context) error {
 // step does one thing, and returns for how long nothing is to be done.
 func (t *Task) step(ctx context.Context) (time.Duration, error) {
 	if held := t.life(); held != nil {
-		if left, err := held.slicelet.CallsLeft(); err != nil || left < lastCalls {
-			if err := t.endLife(ctx); err != nil {
-				return 0, err
-			}
+		left, err := held.slicelet.CallsLeft()
+		if err != nil {
+			return 0, err
+		}
+		if left < lastCalls || t.log.goesOn(held.part) {
+			return 0, t.endLife(ctx)
 		}
 	}
 	held := t.life()
@@ -93,15 +100,18 @@ func (t *Task) step(ctx context.Context) (time.Duration, error) {
 
 // ask asks the table for a grant, and hears it.
 func (t *Task) ask(ctx context.Context, held *leases) (time.Duration, error) {
-	body := []byte(fmt.Sprintf(`{"task":%d,"life":%d}`, t.config.Task, held.life))
-	made, err := t.control.call(ctx, http.MethodPost, "/grant", body, t.control.timeout)
+	made, err := t.control.call(ctx, request{
+		method: http.MethodPost, path: "/grant", body: []byte(fmt.Sprintf(`{"task":%d,"life":%d}`, t.config.Task, held.life)),
+		read: func(made answer) error { return t.isGrant(made, held) },
+	})
 	if err != nil {
 		return 0, err
 	}
+	t.reached(nil)
 	if err := held.sample(made); err != nil {
 		return 0, err
 	}
-	if started, sampled := held.state(); sampled && !started {
+	if started, _ := held.state(); !started {
 		if err := held.start(); err != nil {
 			return 0, err
 		}
@@ -109,12 +119,12 @@ func (t *Task) ask(ctx context.Context, held *leases) (time.Duration, error) {
 	if made.status == http.StatusConflict {
 		return t.refused(made.body), nil
 	}
-	if err := t.stopAtEvidence(ctx, held, made.body); err != nil {
+	if err := t.stopAtEvidence(held, made.body); err != nil {
 		return 0, err
 	}
 	grant, err := held.hear(made.body)
 	var refused *hourstable.Refused
-	if errors.As(err, &refused) {
+	if errors.As(err, &refused) && refused.Code > 0 {
 		t.config.Logger.Info("a grant was not heard", "task", t.config.Task, "why", refused.Reply())
 		return 100 * time.Millisecond, nil
 	}
@@ -122,6 +132,25 @@ func (t *Task) ask(ctx context.Context, held *leases) (time.Duration, error) {
 		return 0, err
 	}
 	return 0, t.heard(held, grant)
+}
+
+// isGrant returns why an answer is none to a request for a grant.
+func (t *Task) isGrant(made answer, held *leases) error {
+	if made.reading == nil {
+		return errors.New("the answer has no reading")
+	}
+	if made.status == http.StatusConflict {
+		var told struct{ Refused string }
+		if err := made.object(&told); err != nil || told.Refused == "" {
+			return fmt.Errorf("%.80q is no refusal", made.body)
+		}
+		return nil
+	}
+	grant, err := hourstable.ReadGrant(t.config.Job, made.body)
+	if err == nil && (grant.Task != t.config.Task || grant.Life != uint64(held.life)) {
+		err = fmt.Errorf("the grant is of task %d in life %d", grant.Task, grant.Life)
+	}
+	return err
 }
 
 // refused returns for how long to wait after the table refused a grant.
@@ -151,6 +180,7 @@ func (t *Task) heard(held *leases, grant hourstable.Grant) error {
 		half = float64(grant.Ends-at) / 2
 	}
 	t.mutex.Lock()
+	t.hasServed = true
 	t.renewAt = at + uint64(half*(1+jitter*(2*rand.Float64()-1)))
 	t.counts.Heard[grant.Kind.String()]++
 	t.mutex.Unlock()

@@ -26,16 +26,17 @@ func (t *Task) notice() {
 	t.served = live
 	t.mutex.Unlock()
 	if len(lost) > 0 && t.config.OnLose != nil {
-		go t.tellLost(context.Background(), lost, 0)
+		go t.tellLost(lost, 0)
 	}
 	if len(gained) > 0 && t.config.OnGain != nil {
-		go t.config.OnGain(gained)
+		go t.tellGained(gained)
 	}
 }
 
 // report reports how many requests each part of the keys had, and why keys were
 // denied.
 func (t *Task) report(ctx context.Context) error {
+	failures := t.failures()
 	for {
 		if err := pause(ctx, t.config.Report, nil); err != nil {
 			return err
@@ -44,10 +45,10 @@ func (t *Task) report(ctx context.Context) error {
 		if err != nil {
 			return err
 		}
-		_, err = t.control.call(ctx, http.MethodPost, "/loads", body, t.control.timeout)
-		if errors.Is(err, ErrUnreachable) {
-			t.countUnreachable(err)
-		} else if err != nil {
+		_, err = t.control.call(ctx, request{method: http.MethodPost, path: "/loads", body: body})
+		if err == nil {
+			failures.reset()
+		} else if err := t.waitAfter(ctx, err, failures); err != nil {
 			return err
 		}
 	}
@@ -110,14 +111,25 @@ func (t *Task) countUnreachable(why error) {
 	t.config.Logger.Info("no control plane did a call", "task", t.config.Task, "why", why)
 }
 
-// waitFor counts a call that no plane did, and returns how long to wait; or the error
-// if no other call helps.
-func (t *Task) waitFor(err error, failures *backoff) (time.Duration, error) {
-	wait, err := waitOf(err, failures)
-	if err == nil {
-		t.countUnreachable(ErrUnreachable)
+// waitAfter waits after a call that no plane did. It returns the error if it is not one
+// of planes, or that of the context.
+func (t *Task) waitAfter(ctx context.Context, err error, failures *backoff) error {
+	var trouble *unreached
+	if !errors.As(err, &trouble) {
+		return err
 	}
-	return wait, err
+	return pause(ctx, t.waitOf(trouble, failures), nil)
+}
+
+// waitOf counts a call that no plane did, and returns how long to wait before the next:
+// while a lease is held at most a fifth of the guard term.
+func (t *Task) waitOf(trouble *unreached, failures *backoff) time.Duration {
+	t.countUnreachable(trouble)
+	limit := time.Duration(0)
+	if held := t.life(); held != nil && held.hasLease() {
+		limit = t.guardFifth()
+	}
+	return trouble.wait(failures, limit)
 }
 
 func (t *Task) failures() *backoff {

@@ -28,12 +28,14 @@ type RouterConfig struct {
 // of a key. It may be wrong: a task that does not own the key says so. It knows
 // nothing until Run. Any goroutines may use it at the same time.
 type Router struct {
-	config  RouterConfig
-	control *control
-	clerk   *hourstable.Clerk
+	config     RouterConfig
+	control    *control
+	clerk      *hourstable.Clerk
+	supervisor *supervisor
 
 	mutex      sync.Mutex
 	generation uint64
+	isMissing  bool      // no control plane has the job
 	heard      time.Time // when a control plane last answered
 	underway   map[uint64]int
 	changed    chan struct{} // closed at the next assignment
@@ -41,6 +43,9 @@ type Router struct {
 
 // NewRouter returns a router, which knows no assignment.
 func NewRouter(config RouterConfig) (*Router, error) {
+	if err := checkPlanes(config.Control); err != nil {
+		return nil, err
+	}
 	clerk, err := hourstable.NewClerk(config.Job)
 	if err != nil {
 		return nil, err
@@ -53,18 +58,22 @@ func NewRouter(config RouterConfig) (*Router, error) {
 	if err != nil {
 		return nil, err
 	}
-	return &Router{
+	made := &Router{
 		config: config, clerk: clerk, underway: map[uint64]int{}, changed: make(chan struct{}),
-		control: &control{
-			job: config.Job, secret: config.Secret, client: config.Client, tickets: drawn,
-			local: hourstable.LocalTicks, timeout: usualTimeout, urls: trimmed(config.Control),
-		},
-	}, nil
+		control: newControl(config.Control, config.Job), supervisor: newSupervisor(config.Logger),
+	}
+	made.control.secret, made.control.client, made.control.logger = config.Secret, config.Client, config.Logger
+	made.control.tickets, made.control.local = drawn, hourstable.LocalTicks
+	return made, nil
 }
 
-// Run follows the assignments of the job until the context ends, and returns nil
-// then; before that a *Rejected.
+// Run follows the assignments of the job until the context ends, and returns nil.
 func (r *Router) Run(ctx context.Context) error {
+	failures := &backoff{least: 50 * time.Millisecond, most: 2 * time.Second}
+	return ifNotEnded(ctx, r.supervisor.loop(ctx, "assignments", failures, r.follow, nil))
+}
+
+func (r *Router) follow(ctx context.Context) error {
 	failures := &backoff{least: 50 * time.Millisecond, most: 2 * time.Second}
 	for {
 		err := r.learn(ctx)
@@ -72,32 +81,42 @@ func (r *Router) Run(ctx context.Context) error {
 			failures.reset()
 			continue
 		}
-		wait, rejected := waitOf(err, failures)
-		if rejected != nil {
-			return ifNotEnded(ctx, rejected)
+		var trouble *unreached
+		if !errors.As(err, &trouble) {
+			return err
 		}
-		r.config.Logger.Info("no control plane answered a router", "job", r.config.Job, "why", err)
-		if err := pause(ctx, wait, nil); err != nil {
-			return ifNotEnded(ctx, err)
+		r.miss(trouble.isMissing)
+		if err := pause(ctx, trouble.wait(failures, 0), nil); err != nil {
+			return err
 		}
 	}
 }
 
+func (r *Router) miss(isMissing bool) {
+	r.mutex.Lock()
+	defer r.mutex.Unlock()
+	r.isMissing = isMissing
+}
+
 // learn learns the next assignment, as soon as there is one.
 func (r *Router) learn(ctx context.Context) error {
-	path := fmt.Sprintf("/assignment?after=%d", r.Generation())
-	made, err := r.control.call(ctx, http.MethodGet, path, nil, longestWait+usualTimeout)
+	made, err := r.control.call(ctx, request{
+		method: http.MethodGet, path: fmt.Sprintf("/assignment?after=%d", r.Generation()),
+		timeout: longestWait + usualTimeout, read: func(made answer) error {
+			if made.status == http.StatusNoContent {
+				return nil
+			}
+			return r.clerk.Learn(made.body) // a plane that stands by is behind
+		},
+	})
 	if err != nil {
 		return err
 	}
 	r.mutex.Lock()
 	defer r.mutex.Unlock()
-	r.heard = time.Now()
+	r.heard, r.isMissing = time.Now(), false
 	if made.status == http.StatusNoContent {
 		return nil
-	}
-	if err := r.clerk.Learn(made.body); err != nil {
-		return &unreached{why: err} // a plane that stands by is behind
 	}
 	found, err := r.clerk.LookAt(0)
 	if err != nil {
@@ -108,6 +127,9 @@ func (r *Router) learn(ctx context.Context) error {
 	r.changed = make(chan struct{})
 	return nil
 }
+
+// Troubles returns what the router counted of failures.
+func (r *Router) Troubles() Troubles { return troublesOf(r.control, r.supervisor) }
 
 // Generation returns the generation of the known assignment, 0 for none.
 func (r *Router) Generation() uint64 {
@@ -126,14 +148,30 @@ func (r *Router) Stale() time.Duration {
 	return time.Since(r.heard)
 }
 
-// Owners returns the owners of a key. ErrNoOwner.
+// Owners returns the owners of a key. ErrNoOwner, which is ErrNoJob too if no control
+// plane has the job.
 func (r *Router) Owners(key string) (hourstable.Owners, error) {
 	found, err := r.clerk.Look([]byte(key))
-	if errors.Is(err, hourstable.ErrUnknown) {
-		return found, fmt.Errorf("%w of %q", ErrNoOwner, key)
+	if !errors.Is(err, hourstable.ErrUnknown) {
+		return found, err
 	}
-	return found, err
+	r.mutex.Lock()
+	defer r.mutex.Unlock()
+	if r.isMissing {
+		return found, &noOwner{key, ErrNoJob}
+	}
+	return found, &noOwner{key, err}
 }
+
+// noOwner is ErrNoOwner, and why.
+type noOwner struct {
+	key string
+	why error
+}
+
+func (n *noOwner) Error() string        { return fmt.Sprintf("%v of %q: %v", ErrNoOwner, n.key, n.why) }
+func (n *noOwner) Unwrap() error        { return n.why }
+func (n *noOwner) Is(target error) bool { return target == ErrNoOwner }
 
 // Send returns nil once an attempt at an owner of a key did. An attempt that returns
 // ErrAgain is made again, with waits that grow, at an owner as known then, until the

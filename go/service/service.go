@@ -37,12 +37,15 @@ var (
 	ErrUnreachable = errors.New("hourstable: no control plane did the call")
 	// ErrNoOwner says that no owner of a key is known.
 	ErrNoOwner = errors.New("hourstable: no owner is known")
+	// ErrNoJob says that no control plane has the job.
+	ErrNoJob = errors.New("hourstable: there is no such job: PUT /jobs/NAME with its policy creates it")
 	// ErrAgain is returned by an attempt of Router.Send that may be made again, as one
 	// that was denied.
 	ErrAgain = errors.New("hourstable: again")
 )
 
-// Rejected is a call that a control plane will not do, as one with a wrong secret.
+// Rejected is a call that a control plane will not do, however often it is made, as one
+// that creates a job which has another policy.
 type Rejected struct {
 	Status int
 	Text   string
@@ -83,7 +86,7 @@ func loggerOr(given Logger) Logger {
 	if given == nil {
 		return silent{}
 	}
-	return given
+	return guardedLogger{given}
 }
 
 // backoff says how long to wait after failures: longer at each, and at random, so

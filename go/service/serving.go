@@ -56,36 +56,63 @@ func (t *Task) Serving(ctx context.Context, key string, answer func(context.Cont
 	return err
 }
 
+// enter asks for a key. The lease is among the open ones from before the question on,
+// so that who gives up the key either denies it or waits for its end.
 func (t *Task) enter(key string) (*Lease, error) {
-	sliceKey := hourstable.SliceKey([]byte(key))
-	t.mutex.Lock()
-	defer t.mutex.Unlock()
-	t.counts.Requests++
-	if holds(t.moving, sliceKey) {
-		return nil, t.denied(key, "moving", ErrMoving)
+	lease := &Lease{Key: key, sliceKey: hourstable.SliceKey([]byte(key)), task: t}
+	if err := t.admit(lease); err != nil {
+		return nil, err
 	}
-	if t.leases == nil {
-		return nil, t.denied(key, "down", hourstable.ErrDown)
+	served, handle, err := lease.leases.enter(lease.sliceKey)
+	if err == nil {
+		lease.Kind, lease.Generation, lease.handle = served.Kind, served.Generation, handle
+		t.count(lease)
+		return lease, nil
 	}
-	served, handle, err := t.leases.enter(key, sliceKey)
+	t.leave(lease)
 	var refused *hourstable.Refused
 	switch {
+	case errors.Is(err, hourstable.ErrOtherPlace): // the life has just ended
+		return nil, t.denied(key, "down", hourstable.ErrDown)
 	case errors.As(err, &refused):
 		ground, _, _ := strings.Cut(refused.Reply(), " ")
 		return nil, t.denied(key, ground, refused)
 	case errors.Is(err, ErrClockBehind):
 		return nil, t.denied(key, "clock-behind", err)
-	case err != nil:
-		return nil, err
 	}
-	t.loads[sliceKey>>(63-loadBits)]++
-	lease := &Lease{key, served.Kind, served.Generation, sliceKey, handle, t.leases, t}
-	t.open[lease] = struct{}{}
-	return lease, nil
+	return nil, err
 }
 
-// denied counts a denial; the mutex is held.
+// admit counts a question, and puts its lease among the open ones unless its key is
+// given up.
+func (t *Task) admit(lease *Lease) error {
+	t.mutex.Lock()
+	defer t.mutex.Unlock()
+	t.counts.Requests++
+	if holds(t.moving, lease.sliceKey) {
+		t.counts.Denied["moving"]++
+		return &Denied{lease.Key, "moving", ErrMoving}
+	}
+	if t.leases == nil {
+		t.counts.Denied["down"]++
+		return &Denied{lease.Key, "down", hourstable.ErrDown}
+	}
+	lease.leases = t.leases
+	t.open[lease] = struct{}{}
+	return nil
+}
+
+// count counts an answer for the loads.
+func (t *Task) count(lease *Lease) {
+	t.mutex.Lock()
+	defer t.mutex.Unlock()
+	t.loads[lease.sliceKey>>(63-loadBits)]++
+}
+
+// denied counts a denial.
 func (t *Task) denied(key, ground string, cause error) error {
+	t.mutex.Lock()
+	defer t.mutex.Unlock()
 	t.counts.Denied[ground]++
 	return &Denied{key, ground, cause}
 }

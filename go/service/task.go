@@ -5,9 +5,7 @@ import (
 	"errors"
 	"fmt"
 	"net/http"
-	"os"
 	"path/filepath"
-	"strings"
 	"sync"
 	"time"
 
@@ -27,7 +25,8 @@ type TaskConfig struct {
 	Control []string // URLs of control planes
 	Job     string
 	Task    uint64 // 1 to 64; no two processes are one task
-	Logs    string // the folder of logs, which has one for each job; tickets are kept there too
+	Logs    string // the folder of logs, which has one for each job; none is written if empty
+	State   string // the folder of tickets; that of logs if empty, and none if both are
 
 	Policy map[string]any // creates the job if it is not there; nil if it is there
 	Secret string
@@ -37,9 +36,10 @@ type TaskConfig struct {
 	Oldest uint64           // ticks without an answer of the table; nine tenths of a guard lease if 0
 
 	// OnGain is told of slice keys that the task may serve from now on, and OnLose of
-	// those that it gives up, before it does: it has Patience for it, and so have the
-	// answers of Serving that run on these keys. Ends is the reading of the task's
-	// clock at which the lease ends anyway.
+	// those that it gives up, before it does: it has Patience for it, and then as long
+	// have the answers of Serving that run on these keys. Ends is the reading of the
+	// task's clock at which the lease ends anyway. If one of them panics, that is logged
+	// and counted, and the task goes on.
 	OnGain   func([]hourstable.Range)
 	OnLose   func(ctx context.Context, lost []hourstable.Range, ends uint64)
 	Patience time.Duration // 1 s if 0
@@ -51,110 +51,151 @@ type TaskConfig struct {
 // Task is a server process that owns keys of a job, and answers for them only while
 // it may. It does nothing until Run. Any goroutines may use it at the same time.
 type Task struct {
-	config  TaskConfig
-	control *control
-	tickets *tickets
-	log     *callLog
-	policy  hourstable.Policy
-	woken   chan struct{}
+	config     TaskConfig
+	control    *control
+	tickets    *tickets
+	supervisor *supervisor
+	policy     hourstable.Policy
+	woken      chan struct{}
+	lasting    context.Context // of what goes on while the task gives up its leases
+	stop       context.CancelFunc
 
-	mutex    sync.Mutex
-	leases   *leases // nil between two lives
-	phase    *hourstable.Phase
-	renewAt  uint64
-	served   []hourstable.Range
-	moving   []hourstable.Range
-	isBehind bool
-	open     map[*Lease]struct{}
-	left     chan struct{}
-	loads    map[uint64]uint64
-	counts   Counts
-}
-
-// Counts are what a task counted since its start.
-type Counts struct {
-	Requests    uint64            // questions for a key
-	Denied      map[string]uint64 // by the ground
-	LeaseLost   uint64            // answers after the end of their lease
-	ClockBehind uint64            // times that its clock stopped the task
-	Heard       map[string]uint64 // leases by their kind
-	Lives       uint64
-	Unreachable uint64 // calls that no control plane did
+	mutex      sync.Mutex
+	log        *callLog // nil for none
+	leases     *leases  // nil between two lives
+	phase      *hourstable.Phase
+	renewAt    uint64
+	served     []hourstable.Range
+	moving     []hourstable.Range
+	isBehind   bool
+	hasServed  bool // it had a lease
+	isDraining bool
+	isStopped  bool
+	cutOff     time.Time // since when no control plane gives leases; zero if one does
+	open       map[*Lease]struct{}
+	left       chan struct{}
+	loads      map[uint64]uint64
+	counts     Counts
 }
 
 // NewTask opens the tickets of a task. An error if another process has them.
 func NewTask(config TaskConfig) (*Task, error) {
-	if config.Client == nil {
-		config.Client = http.DefaultClient
-	}
-	if config.Drift == (hourstable.Drift{}) {
-		config.Drift = hourstable.Drift{Extra: 1001, Per: 1_000_000, Grain: 2}
-	}
-	if config.Patience == 0 {
-		config.Patience = time.Second
-	}
-	if config.Report == 0 {
-		config.Report = 5 * time.Second
-	}
-	if config.local == nil {
-		config.local = hourstable.LocalTicks
-	}
-	config.Logger = loggerOr(config.Logger)
-	folder := filepath.Join(config.Logs, config.Job)
-	if err := os.MkdirAll(folder, 0o755); err != nil {
+	if err := checkPlanes(config.Control); err != nil {
 		return nil, err
 	}
+	config = config.withDefaults()
 	process := uint8(firstProcess + config.Task - 1)
-	drawn, err := openTickets(process, filepath.Join(folder, fmt.Sprintf("task-%d.ticket", config.Task)))
+	drawn, err := openTickets(process, config.ticketFile())
 	if err != nil {
 		return nil, err
 	}
 	made := &Task{
-		config: config, tickets: drawn, woken: make(chan struct{}, 1), left: make(chan struct{}, 1),
-		open: map[*Lease]struct{}{}, loads: map[uint64]uint64{},
+		config: config, tickets: drawn, supervisor: newSupervisor(config.Logger), woken: make(chan struct{}, 1),
+		left: make(chan struct{}, 1), open: map[*Lease]struct{}{}, loads: map[uint64]uint64{},
 		counts: Counts{Denied: map[string]uint64{}, Heard: map[string]uint64{}},
 	}
-	made.control = &control{
-		job: config.Job, secret: config.Secret, client: config.Client, tickets: drawn, local: config.local,
-		timeout: usualTimeout, urls: trimmed(config.Control),
-	}
+	made.lasting, made.stop = context.WithCancel(context.Background())
+	made.control = newControl(config.Control, config.Job)
+	made.control.secret, made.control.client, made.control.logger = config.Secret, config.Client, config.Logger
+	made.control.tickets, made.control.local = drawn, config.local
 	return made, nil
 }
 
-func trimmed(urls []string) []string {
-	made := make([]string, len(urls))
-	for at, one := range urls {
-		made[at] = strings.TrimRight(one, "/")
+func (c TaskConfig) withDefaults() TaskConfig {
+	if c.Client == nil {
+		c.Client = http.DefaultClient
 	}
-	return made
+	if c.Drift == (hourstable.Drift{}) {
+		c.Drift = hourstable.Drift{Extra: 1001, Per: 1_000_000, Grain: 2}
+	}
+	if c.Patience == 0 {
+		c.Patience = time.Second
+	}
+	if c.Report == 0 {
+		c.Report = 5 * time.Second
+	}
+	if c.local == nil {
+		c.local = hourstable.LocalTicks
+	}
+	c.Logger = loggerOr(c.Logger)
+	return c
+}
+
+// ticketFile returns the path of the tickets, "" for none.
+func (c TaskConfig) ticketFile() string {
+	folder := c.State
+	if folder == "" {
+		folder = c.Logs
+	}
+	if folder == "" {
+		return ""
+	}
+	return filepath.Join(folder, c.Job, fmt.Sprintf("task-%d.ticket", c.Task))
 }
 
 // Run follows the table until the context ends, then gives up all leases and frees
-// them at the table, and returns nil. Before that it returns why the task cannot go
-// on: ErrClockBroken, *Rejected, or that its log cannot be written.
+// them at the table, and returns nil. Before that it returns only what cannot mend
+// itself: ErrClockBroken, ErrNoJob if there is no job and no policy to create it,
+// *Rejected if the job has another policy, or that its log is one of another policy.
 func (t *Task) Run(ctx context.Context) error {
-	defer t.tickets.close()
-	if err := t.learnPolicy(ctx); err != nil {
-		return ifNotEnded(ctx, err)
-	}
-	defer t.log.close()
+	defer t.end()
 	inner, cancel := context.WithCancel(ctx)
-	loops := []func(context.Context) error{t.watch, t.act, t.report}
+	defer cancel()
+	t.supervisor.spawn("drain", func() error {
+		<-inner.Done()
+		t.drain()
+		return nil
+	})
+	why := t.follow(inner)
+	cancel()
+	t.drain()
+	// Each kind of lease has the patience of a callback and of the answers.
+	patience := 2 * time.Duration(len(kinds)) * t.config.Patience
+	last, stop := context.WithTimeout(t.lasting, patience+t.control.timeout)
+	defer stop()
+	err := t.supervisor.guarded(func() error { return t.endLife(last) })
+	if err != nil {
+		t.config.Logger.Warn("a task ends with leases that were not freed", "task", t.config.Task, "error", err)
+	}
+	t.supervisor.wait(last)
+	return ifNotEnded(ctx, why)
+}
+
+// follow learns the policy of the job, and follows its table until the context ends or
+// something cannot mend itself.
+func (t *Task) follow(ctx context.Context) error {
+	if err := t.supervisor.loop(ctx, "policy", t.failures(), t.learnPolicy, nil); err != nil {
+		return err
+	}
+	inner, cancel := context.WithCancel(ctx)
+	defer cancel()
+	loops := []struct {
+		where string
+		work  func(context.Context) error
+		mend  func() error
+	}{{"phase", t.watch, nil}, {"leases", t.act, t.dropLife}, {"loads", t.report, nil}}
 	ended := make(chan error, len(loops))
-	for _, loop := range loops {
-		go func(loop func(context.Context) error) { ended <- loop(inner) }(loop)
+	for _, it := range loops {
+		it := it
+		go func() { ended <- t.supervisor.loop(inner, it.where, t.failures(), it.work, it.mend) }()
 	}
 	first := <-ended
 	cancel()
 	for range loops[1:] {
 		<-ended
 	}
-	last, stop := context.WithTimeout(context.Background(), 2*t.config.Patience+t.control.timeout)
-	defer stop()
-	if err := t.endLife(last); err != nil {
-		t.config.Logger.Warn("a task ends with leases that were not freed", "task", t.config.Task, "error", err)
-	}
-	return ifNotEnded(ctx, first)
+	return first
+}
+
+// end closes what Run leaves.
+func (t *Task) end() {
+	t.stop()
+	t.mutex.Lock()
+	log := t.log
+	t.isStopped = true
+	t.mutex.Unlock()
+	log.close()
+	t.tickets.close()
 }
 
 func ifNotEnded(ctx context.Context, err error) error {
@@ -177,23 +218,6 @@ func (t *Task) Served() []hourstable.Range {
 	t.mutex.Lock()
 	defer t.mutex.Unlock()
 	return minus(t.served, t.moving)
-}
-
-// Counts returns what the task counted.
-func (t *Task) Counts() Counts {
-	t.mutex.Lock()
-	defer t.mutex.Unlock()
-	made := t.counts
-	made.Denied, made.Heard = copied(t.counts.Denied), copied(t.counts.Heard)
-	return made
-}
-
-func copied(counts map[string]uint64) map[string]uint64 {
-	made := make(map[string]uint64, len(counts))
-	for name, count := range counts {
-		made[name] = count
-	}
-	return made
 }
 
 func (t *Task) life() *leases {

@@ -1,0 +1,303 @@
+package service
+
+import (
+	"context"
+	"encoding/json"
+	"errors"
+	"os"
+	"path/filepath"
+	"strings"
+	"sync"
+	"syscall"
+	"testing"
+	"time"
+)
+
+// linesOf returns the calls in the log of task 1, in their order.
+func linesOf(t *testing.T, logs string) []map[string]any {
+	t.Helper()
+	found, err := filepath.Glob(filepath.Join(logs, "shop", "task-1.*.jsonl"))
+	if err != nil || len(found) == 0 {
+		t.Fatal(found, err)
+	}
+	var made []map[string]any
+	for _, path := range found {
+		text, err := os.ReadFile(path)
+		if err != nil {
+			t.Fatal(err)
+		}
+		for _, line := range strings.Split(strings.TrimSuffix(string(text), "\n"), "\n")[1:] {
+			var call map[string]any
+			if err := json.Unmarshal([]byte(line), &call); err != nil {
+				t.Fatalf("%q: %v", line, err)
+			}
+			made = append(made, call)
+		}
+	}
+	return made
+}
+
+// full lets the log of a task write to a disk that is full.
+func full(t *testing.T, task *Task) {
+	t.Helper()
+	file, err := os.OpenFile("/dev/full", os.O_RDWR, 0)
+	if err != nil {
+		t.Skipf("skipped, as there is no /dev/full: %v", err)
+	}
+	task.log.mutex.Lock()
+	defer task.log.mutex.Unlock()
+	task.log.file = file
+}
+
+// A full disk stops the log and not the task, which begins a new life once there is room: then no line is missing
+// within a life.
+func TestAFullDiskStopsTheLogAlone(t *testing.T) {
+	job := newJob(t, 2000)
+	logs := t.TempDir()
+	task := runs(t, TaskConfig{Control: []string{job.plane().URL}, Logs: logs})
+	eventually(t, "the task serves", func() bool { return task.serves("hello") })
+	blocker := filepath.Join(logs, "elsewhere") // while it is there, no file of the log can be opened
+	if err := os.Rename(filepath.Join(logs, "shop"), blocker); err != nil {
+		t.Fatal(err)
+	}
+	if err := os.WriteFile(filepath.Join(logs, "shop"), nil, 0o600); err != nil {
+		t.Fatal(err)
+	}
+	full(t, task.Task)
+	if !task.serves("hello") {
+		t.Error("the task does not serve")
+	}
+	task.renews(t)
+	counts := task.Counts()
+	if counts.Unlogged < 3 || counts.Internal["log"] == 0 || counts.Lives != 1 {
+		t.Errorf("%+v", counts)
+	}
+	if err := os.Remove(filepath.Join(logs, "shop")); err != nil {
+		t.Fatal(err)
+	}
+	if err := os.Rename(blocker, filepath.Join(logs, "shop")); err != nil {
+		t.Fatal(err)
+	}
+	eventually(t, "a new life is logged", func() bool { return task.Counts().Lives == 2 && task.serves("hello") })
+	missing := 0.0
+	for _, call := range linesOf(t, logs) {
+		if call["do"] == "open" && call["life"] == 1.0 {
+			missing, _ = call["_lost"].(float64)
+		} else if missing == 0 && call["do"] == "start" && call["life"] == 2.0 {
+			t.Error("life 2 starts where no line says that lines are missing")
+		}
+	}
+	if uint64(missing) < counts.Unlogged {
+		t.Errorf("%v lines are missing, not %d", missing, counts.Unlogged)
+	}
+}
+
+// A file on a full disk can be opened. That does not end a life.
+func TestALogThatIsOpenedOnAFullDisk(t *testing.T) {
+	folder := t.TempDir()
+	var whys []error
+	log, err := openLog(folder, "task-1", []byte(`{"job":{}}`), func(why error) { whys = append(whys, why) })
+	if err != nil {
+		t.Fatal(err)
+	}
+	defer log.close()
+	part, _ := log.open()
+	path := filepath.Join(folder, "task-1."+utcDay()+".jsonl")
+	if err := os.Remove(path); err != nil {
+		t.Fatal(err)
+	}
+	if err := os.Symlink("/dev/full", path); err != nil {
+		t.Skipf("skipped: %v", err)
+	}
+	log.file.Close() // the next write fails
+	log.failures = backoff{}
+	log.append(part, []byte("{}"))
+	for range [3]int{} {
+		if log.goesOn(part) {
+			t.Error("it goes on")
+		}
+	}
+	if log.lacks() != 1 || len(whys) < 2 {
+		t.Error(log.lacks(), whys)
+	}
+	if err := os.Remove(path); err != nil {
+		t.Fatal(err)
+	}
+	if !log.goesOn(part) {
+		t.Error("there is room, and it does not go on")
+	}
+	log.append(part, []byte(`"of the life with the gap"`))
+	after, lacks := log.open()
+	log.append(after, []byte(`"of the next one"`))
+	if text, _ := os.ReadFile(path); lacks != 2 || string(text) != "{\"job\":{}}\n\"of the next one\"\n" {
+		t.Errorf("%d %q", lacks, text)
+	}
+}
+
+// A start with a disk on which the log cannot be opened.
+func TestATaskWhoseLogCannotBeOpened(t *testing.T) {
+	job := newJob(t, 2000)
+	logs, state := t.TempDir(), t.TempDir()
+	if err := os.WriteFile(filepath.Join(logs, "shop"), nil, 0o600); err != nil { // in place of the folder
+		t.Fatal(err)
+	}
+	task := runs(t, TaskConfig{Control: []string{job.plane().URL}, Logs: logs, State: state})
+	eventually(t, "the task serves", func() bool { return task.serves("hello") })
+	if task.Counts().Internal["log"] == 0 || task.Counts().Unlogged == 0 {
+		t.Errorf("%+v", task.Counts())
+	}
+	if _, err := os.Stat(filepath.Join(state, "shop", "task-1.ticket")); err != nil {
+		t.Error(err)
+	}
+}
+
+func TestATaskWithNoLog(t *testing.T) {
+	job := newJob(t, 2000)
+	t.Setenv("TMPDIR", t.TempDir())
+	before, _ := os.Getwd()
+	if err := os.Chdir(t.TempDir()); err != nil {
+		t.Fatal(err)
+	}
+	defer os.Chdir(before)
+	task := runs(t, TaskConfig{Control: []string{job.plane().URL}})
+	eventually(t, "the task serves", func() bool { return task.serves("hello") })
+	task.renews(t)
+	if found, _ := filepath.Glob("*"); len(found) != 0 || task.Counts().Unlogged != 0 {
+		t.Error(found, task.Counts())
+	}
+}
+
+// What a task writes is for its user alone.
+func TestFilesAreOfTheirUserAlone(t *testing.T) {
+	defer syscall.Umask(syscall.Umask(0))
+	job := newJob(t, 2000)
+	logs, state := filepath.Join(t.TempDir(), "logs"), filepath.Join(t.TempDir(), "state")
+	task := runs(t, TaskConfig{Control: []string{job.plane().URL}, Logs: logs, State: state})
+	eventually(t, "the task serves", func() bool { return task.serves("hello") })
+	found := 0
+	for _, folder := range []string{logs, state} {
+		filepath.Walk(folder, func(path string, info os.FileInfo, err error) error {
+			if err != nil || info.Mode().Perm()&0o077 != 0 {
+				t.Error(path, info.Mode(), err)
+			}
+			found++
+			return nil
+		})
+	}
+	if found != 6 { // two folders in each of two, and a file in each
+		t.Errorf("%d files and folders", found)
+	}
+}
+
+// Readers of one task do not wait for each other: all of them ask while the line of the first is being written.
+func TestReadersGoSideBySide(t *testing.T) {
+	job := newJob(t, 600_000)
+	task := runs(t, TaskConfig{Control: []string{job.plane().URL}, Logs: t.TempDir(), Report: time.Hour})
+	eventually(t, "the task serves", func() bool { return task.serves("hello") })
+	out, in, err := os.Pipe()
+	if err != nil {
+		t.Fatal(err)
+	}
+	task.log.mutex.Lock()
+	file := task.log.file
+	task.log.file = in
+	task.log.mutex.Unlock()
+	fill(t, in)
+	place := func() uint64 {
+		task.tickets.mutex.Lock()
+		defer task.tickets.mutex.Unlock()
+		return task.tickets.last
+	}
+	const readers = 8
+	before := place()
+	var entered sync.WaitGroup
+	entered.Add(readers)
+	for range [readers]int{} {
+		go func() {
+			defer entered.Done()
+			task.Serving(context.Background(), "hello", func(context.Context, *Lease) error { return nil })
+		}()
+	}
+	// Each of them draws a ticket for its question and one for its handle.
+	eventually(t, "all readers ask", func() bool { return place() >= before+2*readers })
+	task.Counts() // nor do they keep up who looks at the task
+	task.Served()
+	drained := make(chan struct{})
+	go func() {
+		defer close(drained)
+		room := make([]byte, 1<<16)
+		for {
+			if _, err := out.Read(room); err != nil {
+				return
+			}
+		}
+	}()
+	entered.Wait()
+	task.log.mutex.Lock()
+	task.log.file = file
+	task.log.mutex.Unlock()
+	in.Close()
+	<-drained
+	out.Close()
+}
+
+// fill fills a pipe, so that the next write to it waits.
+func fill(t *testing.T, in *os.File) {
+	t.Helper()
+	for _, size := range []int{1 << 20, 1} {
+		for isFull := false; !isFull; {
+			in.SetWriteDeadline(time.Now().Add(100 * time.Millisecond))
+			_, err := in.Write(make([]byte, size))
+			if isFull = errors.Is(err, os.ErrDeadlineExceeded); !isFull && err != nil {
+				t.Fatal(err)
+			}
+		}
+	}
+	in.SetWriteDeadline(time.Time{})
+}
+
+func TestLogs(t *testing.T) {
+	folder := t.TempDir()
+	path := filepath.Join(folder, "task-1."+utcDay()+".jsonl")
+	tell := func(ticket uint64) {
+		t.Helper()
+		log, err := openLog(folder, "task-1", []byte(`{"job":{}}`), func(why error) { t.Error(why) })
+		if err != nil {
+			t.Fatal(err)
+		}
+		defer log.close()
+		line, err := lineOf(ticket, "start", "started 1", map[string]any{"at": 7})
+		if err != nil {
+			t.Fatal(err)
+		}
+		part, _ := log.open()
+		log.append(part, line)
+	}
+	holds := func(wanted string) {
+		t.Helper()
+		if text, _ := os.ReadFile(path); string(text) != wanted {
+			t.Errorf("%q, not %q", text, wanted)
+		}
+	}
+	line := func(ticket string) string {
+		return `{"at":7,"do":"start","reply":"started 1","ticket":` + ticket + "}\n"
+	}
+	tell(1)
+	holds("{\"job\":{}}\n" + line("1"))
+	for _, torn := range []string{`{"at":8,"do":"st`, strings.Repeat(" ", 100_000)} {
+		text, _ := os.ReadFile(path)
+		os.WriteFile(path, append(text, torn...), 0o600)
+		tell(2)
+		holds(string(text) + line("2"))
+	}
+	text, _ := os.ReadFile(path)
+	os.WriteFile(path, text[:len(text)-1], 0o600) // its end is torn
+	tell(3)
+	holds(string(text) + line("3"))
+	os.WriteFile(path, []byte(`{"jo`), 0o600) // the job line is torn
+	tell(4)
+	holds("{\"job\":{}}\n" + line("4"))
+	if _, err := openLog(folder, "task-1", []byte(`{"job":1}`), nil); err == nil {
+		t.Error("the log of another job is opened")
+	}
+}
