@@ -104,6 +104,7 @@ func (a answer) object(members any) error {
 // unreached is why planes did not do a call, and when to ask again.
 type unreached struct {
 	what      string // connection, answer, or a status
+	request   string // its ticket
 	why       error
 	after     time.Duration // what the plane asks for
 	isBusy    bool          // a plane is at a limit
@@ -198,7 +199,7 @@ func (c *control) leave(plane string, why *unreached) {
 	}
 	c.mutex.Unlock()
 	c.logger.Warn("a control plane did not do a call",
-		"job", c.job, "plane", shown(plane), "why", why.why, "mend", mending(why.what))
+		"plane", shown(plane), "request", why.request, "why", why.why, "mend", mending(why.what))
 }
 
 // mending returns what an operator does about a failure.
@@ -243,14 +244,20 @@ func (c *control) try(ctx context.Context, plane string, asked request) (answer,
 	if err != nil {
 		return answer{}, err
 	}
-	response, text, err := c.fetch(posed)
+	made, err := answer{}, error(nil)
+	if response, text, failed := c.fetch(posed); failed != nil {
+		err = &unreached{what: "connection", why: failed}
+	} else {
+		made, err = c.taken(response, text, sent, asked)
+	}
 	if ctx.Err() != nil {
 		return answer{}, ctx.Err()
 	}
-	if err != nil {
-		return answer{}, &unreached{what: "connection", why: err}
+	var trouble *unreached
+	if errors.As(err, &trouble) {
+		trouble.request = posed.Header.Get(ticketHeader)
 	}
-	return c.taken(response, text, sent, asked)
+	return made, err
 }
 
 // prepare draws the ticket of a request, and returns the local reading. An error is

@@ -54,7 +54,7 @@ func (t *Task) leaveKeys(lost []hourstable.Range, ends uint64) {
 	defer cancel()
 	for t.isOpen(lost) {
 		if err := pause(within, t.config.Patience, t.left); err != nil {
-			t.config.Logger.Info("keys are given up on which an answer runs", "task", t.config.Task)
+			t.config.Logger.Info("keys are given up on which an answer runs")
 			return
 		}
 	}
@@ -79,7 +79,7 @@ func (t *Task) tellLost(lost []hourstable.Range, ends uint64) {
 	select {
 	case <-told:
 	case <-within.Done():
-		t.config.Logger.Warn("OnLose runs longer than the patience of its task", "task", t.config.Task)
+		t.config.Logger.Warn("OnLose runs longer than the patience of its task")
 	}
 }
 
@@ -125,7 +125,7 @@ func (t *Task) spawnFree(note []byte) {
 	t.supervisor.spawn("free", func() error {
 		err := t.free(t.lasting, note)
 		if errors.Is(err, context.DeadlineExceeded) || errors.Is(err, context.Canceled) {
-			t.config.Logger.Warn("a lease was not freed: it ends by itself", "task", t.config.Task)
+			t.config.Logger.Warn("a lease was not freed: it ends by itself")
 			return nil
 		}
 		return err
@@ -150,6 +150,6 @@ func (t *Task) stopAtEvidence(held *leases, message []byte) error {
 		}
 	}
 	t.notice()
-	t.config.Logger.Error("a grant shows that a clock breaks its drift; the task ends", "task", t.config.Task)
+	t.config.Logger.Error("a grant shows that a clock breaks its drift; the task ends")
 	return ErrClockBroken
 }

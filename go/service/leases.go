@@ -119,12 +119,13 @@ func (l *leases) call(do string, members map[string]any, ask func(at uint64) (st
 }
 
 // ask makes a call of the slicelet at the reading of now. It returns its line too, if
-// there is a log and the machine was asked.
+// there are members and a log, and the machine was asked.
 func (l *leases) ask(
 	do string, members map[string]any, ask func(at uint64) (string, error),
 ) (line []byte, err error) {
 	var ticket uint64
-	if l.log != nil {
+	isLogged := members != nil && l.log != nil
+	if isLogged {
 		if ticket, err = l.tickets.draw(); err != nil {
 			return nil, err
 		}
@@ -140,7 +141,7 @@ func (l *leases) ask(
 	} else if err != nil {
 		return nil, err
 	}
-	if l.log == nil {
+	if !isLogged {
 		return nil, err
 	}
 	members["task"], members["at"] = l.task, at
@@ -197,21 +198,21 @@ func (l *leases) release(kind hourstable.Kind) (note []byte, err error) {
 	return note, err
 }
 
-// enter asks whether the task may serve a slice key, and takes a handle on it.
-func (l *leases) enter(sliceKey uint64) (served hourstable.Served, handle hourstable.Handle, err error) {
-	lines, err := l.questions(sliceKey, &served, &handle)
+// enter asks whether the task may serve the slice key of a lease, and takes a handle
+// on it.
+func (l *leases) enter(lease *Lease) error {
+	lines, err := l.questions(lease)
 	l.log.append(l.part, lines...)
-	return served, handle, err
+	return err
 }
 
 // questions asks what enter does, and returns the lines of both calls.
-func (l *leases) questions(
-	sliceKey uint64, served *hourstable.Served, handle *hourstable.Handle,
-) (lines [][]byte, err error) {
+func (l *leases) questions(lease *Lease) (lines [][]byte, err error) {
 	l.mutex.RLock()
 	defer l.mutex.RUnlock()
-	line, err := l.ask("serve", map[string]any{"slice_key": sliceKey}, func(at uint64) (reply string, err error) {
-		*served, err = l.slicelet.ServeAt(sliceKey, at)
+	line, err := l.ask("serve", lease.members("slice_key", lease.sliceKey), func(at uint64) (string, error) {
+		served, err := l.slicelet.ServeAt(lease.sliceKey, at)
+		lease.Kind, lease.Generation = served.Kind, served.Generation
 		return fmt.Sprintf("served %s %d", served.Kind, served.Generation), err
 	})
 	if line != nil {
@@ -220,8 +221,9 @@ func (l *leases) questions(
 	if err != nil {
 		return lines, err
 	}
-	line, err = l.ask("hold", map[string]any{"slice_key": sliceKey}, func(at uint64) (reply string, err error) {
-		*handle, err = l.slicelet.HoldAt(sliceKey, at)
+	line, err = l.ask("hold", lease.members("slice_key", lease.sliceKey), func(at uint64) (string, error) {
+		handle, err := l.slicelet.HoldAt(lease.sliceKey, at)
+		lease.handle = handle
 		return fmt.Sprintf("handle life %d position %d", handle.Life, handle.Position), err
 	})
 	if line != nil {
@@ -230,13 +232,14 @@ func (l *leases) questions(
 	return lines, err
 }
 
-// check returns nil if the task has held the key of a handle without a break.
-func (l *leases) check(handle hourstable.Handle) error {
+// check returns nil if the task has held the key of a lease without a break.
+func (l *leases) check(lease *Lease) error {
+	handle := lease.handle
 	value := map[string]any{
 		"task": handle.Task, "slice_key": handle.SliceKey, "position": handle.Position, "life": handle.Life,
 	}
 	l.mutex.RLock()
-	line, err := l.ask("check", map[string]any{"handle": value}, func(at uint64) (string, error) {
+	line, err := l.ask("check", lease.members("handle", value), func(at uint64) (string, error) {
 		return "continuous", l.slicelet.Check(handle, at)
 	})
 	l.mutex.RUnlock()

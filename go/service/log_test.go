@@ -167,6 +167,38 @@ func TestATaskWithNoLog(t *testing.T) {
 	}
 }
 
+// A log that is thinned has all calls of an answer or none, and all other calls.
+func TestAThinnedLog(t *testing.T) {
+	for _, part := range []float64{1e-12, 0.5, 1} {
+		job := newJob(t, 600_000)
+		logs := t.TempDir()
+		task := runs(t, TaskConfig{Control: []string{job.plane().URL}, Logs: logs, Sample: part})
+		eventually(t, "the task has a lease", func() bool { return len(task.Served()) > 0 })
+		for range [200]int{} {
+			if !task.serves("hello") {
+				t.Fatal("the task does not serve")
+			}
+		}
+		counts := map[any]int{}
+		for _, call := range linesOf(t, logs) {
+			counts[call["do"]]++
+		}
+		if counts["open"] != 1 || counts["start"] != 1 || counts["hear"] == 0 || counts["sample"] < counts["hear"] {
+			t.Errorf("%v: %v", part, counts)
+		}
+		least, most := 0, 0
+		switch part {
+		case 0.5:
+			least, most = 40, 160 // of 200: chance goes beyond in one of 10^17 tests
+		case 1:
+			least, most = 200, 200
+		}
+		if answers := counts["serve"]; answers < least || answers > most || counts["hold"] != answers || counts["check"] != answers {
+			t.Errorf("%v: %v", part, counts)
+		}
+	}
+}
+
 // What a task writes is for its user alone.
 func TestFilesAreOfTheirUserAlone(t *testing.T) {
 	defer syscall.Umask(syscall.Umask(0))

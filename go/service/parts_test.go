@@ -3,9 +3,11 @@ package service
 import (
 	"context"
 	"errors"
+	"fmt"
 	"net/http"
 	"net/http/httptest"
 	"os"
+	"os/exec"
 	"path/filepath"
 	"reflect"
 	"strings"
@@ -160,5 +162,26 @@ func TestContextsOfCalls(t *testing.T) {
 	time.AfterFunc(20*time.Millisecond, cancel)
 	if _, err := asks.call(ctx, request{method: "GET", timeout: time.Minute}); !errors.Is(err, context.Canceled) {
 		t.Error("cancelled:", err)
+	}
+}
+
+// Processes that fail at once do not try again at once: each has chance of its own.
+func TestProcessesDrawOtherNumbers(t *testing.T) {
+	if os.Getenv("HOURSTABLE_DRAWS") != "" {
+		fmt.Println("drawn", (&backoff{least: time.Hour, most: time.Hour}).wait())
+		return
+	}
+	drawn := map[string]bool{}
+	for range [3]int{} {
+		process := exec.Command(os.Args[0], "-test.run=^TestProcessesDrawOtherNumbers$")
+		process.Env = append(os.Environ(), "HOURSTABLE_DRAWS=1")
+		said, err := process.Output()
+		if err != nil || !strings.HasPrefix(string(said), "drawn ") {
+			t.Fatalf("%s %v", said, err)
+		}
+		drawn[strings.SplitN(string(said), "\n", 2)[0]] = true
+	}
+	if len(drawn) != 3 {
+		t.Error(drawn)
 	}
 }

@@ -22,7 +22,7 @@ func (t *Task) learnPolicy(ctx context.Context) error {
 			t.reached(nil)
 			return t.usePolicy(policy)
 		}
-		if errors.Is(err, ErrNoJob) {
+		if errors.Is(err, ErrNoJob) && t.config.Policy == nil {
 			return fmt.Errorf("%w: %q", ErrNoJob, t.config.Job)
 		}
 		if errors.Is(err, ErrUnreachable) {

@@ -5,7 +5,6 @@ import (
 	"encoding/json"
 	"errors"
 	"fmt"
-	"math/rand"
 	"net/http"
 	"time"
 
@@ -125,7 +124,7 @@ func (t *Task) ask(ctx context.Context, held *leases) (time.Duration, error) {
 	grant, err := held.hear(made.body)
 	var refused *hourstable.Refused
 	if errors.As(err, &refused) && refused.Code > 0 {
-		t.config.Logger.Info("a grant was not heard", "task", t.config.Task, "why", refused.Reply())
+		t.config.Logger.Info("a grant was not heard", "why", refused.Reply())
 		return 100 * time.Millisecond, nil
 	}
 	if err != nil {
@@ -159,7 +158,7 @@ func (t *Task) refused(body []byte) time.Duration {
 	if json.Unmarshal(body, &told) == nil && told.Refused == "no-assignment" {
 		return 500 * time.Millisecond
 	}
-	t.config.Logger.Warn("the table refused a grant", "task", t.config.Task, "why", told.Refused)
+	t.config.Logger.Warn("the table refused a grant", "why", told.Refused)
 	return 2 * time.Second
 }
 
@@ -181,7 +180,7 @@ func (t *Task) heard(held *leases, grant hourstable.Grant) error {
 	}
 	t.mutex.Lock()
 	t.hasServed = true
-	t.renewAt = at + uint64(half*(1+jitter*(2*rand.Float64()-1)))
+	t.renewAt = at + uint64(half*(1+jitter*(2*random()-1)))
 	t.counts.Heard[grant.Kind.String()]++
 	t.mutex.Unlock()
 	t.notice()

@@ -94,7 +94,7 @@ func (t *Task) noteBehind(why error) {
 	t.mutex.Unlock()
 	if isNew {
 		t.countBehind()
-		t.config.Logger.Warn("a task serves nothing", "task", t.config.Task, "why", why)
+		t.config.Logger.Warn("a task serves nothing", "why", why)
 	}
 }
 
@@ -108,7 +108,7 @@ func (t *Task) countUnreachable(why error) {
 	t.mutex.Lock()
 	t.counts.Unreachable++
 	t.mutex.Unlock()
-	t.config.Logger.Info("no control plane did a call", "task", t.config.Task, "why", why)
+	t.config.Logger.Info("no control plane did a call", "why", why)
 }
 
 // waitAfter waits after a call that no plane did. It returns the error if it is not one

@@ -5,7 +5,6 @@ import (
 	"errors"
 	"fmt"
 	"math"
-	"math/rand"
 	"net/http"
 	"sync"
 	"time"
@@ -53,7 +52,7 @@ func NewRouter(config RouterConfig) (*Router, error) {
 	if config.Client == nil {
 		config.Client = http.DefaultClient
 	}
-	config.Logger = loggerOr(config.Logger)
+	config.Logger = loggerOf(config.Logger, "job", config.Job)
 	drawn, err := openTickets(firstRouter, "")
 	if err != nil {
 		return nil, err
@@ -216,7 +215,7 @@ func (r *Router) pick(tasks []uint64) uint64 {
 			least = append(least, task)
 		}
 	}
-	picked := least[rand.Intn(len(least))]
+	picked := least[int(random()*float64(len(least)))]
 	r.underway[picked]++
 	return picked
 }

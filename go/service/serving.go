@@ -16,9 +16,18 @@ type Lease struct {
 	Generation uint64
 
 	sliceKey uint64
+	isLogged bool
 	handle   hourstable.Handle
 	leases   *leases
 	task     *Task
+}
+
+// members returns those of the line of a call, nil if it has none.
+func (l *Lease) members(name string, value any) map[string]any {
+	if !l.isLogged {
+		return nil
+	}
+	return map[string]any{name: value}
 }
 
 // Check returns ErrLeaseLost unless the task has held the key since the answer was
@@ -27,7 +36,7 @@ func (l *Lease) Check() error {
 	if l.task.life() != l.leases {
 		return ErrLeaseLost // another life, whose slicelet did not give the handle
 	}
-	err := l.leases.check(l.handle)
+	err := l.leases.check(l)
 	var refused *hourstable.Refused
 	if errors.As(err, &refused) || errors.Is(err, ErrClockBehind) {
 		return fmt.Errorf("%w: %v", ErrLeaseLost, err)
@@ -59,13 +68,14 @@ func (t *Task) Serving(ctx context.Context, key string, answer func(context.Cont
 // enter asks for a key. The lease is among the open ones from before the question on,
 // so that who gives up the key either denies it or waits for its end.
 func (t *Task) enter(key string) (*Lease, error) {
-	lease := &Lease{Key: key, sliceKey: hourstable.SliceKey([]byte(key)), task: t}
+	lease := &Lease{
+		Key: key, sliceKey: hourstable.SliceKey([]byte(key)), task: t, isLogged: random() < t.config.Sample,
+	}
 	if err := t.admit(lease); err != nil {
 		return nil, err
 	}
-	served, handle, err := lease.leases.enter(lease.sliceKey)
+	err := lease.leases.enter(lease)
 	if err == nil {
-		lease.Kind, lease.Generation, lease.handle = served.Kind, served.Generation, handle
 		t.count(lease)
 		return lease, nil
 	}

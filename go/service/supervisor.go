@@ -125,20 +125,28 @@ func (s *supervisor) counts() map[string]uint64 {
 	return copied(s.failed)
 }
 
-// guardedLogger keeps a panic of a logger from whoever logs.
-type guardedLogger struct{ given Logger }
+// guardedLogger keeps a panic of a logger from whoever logs, and tells in each line of
+// whom it is.
+type guardedLogger struct {
+	given Logger
+	whose []any
+}
 
 func (g guardedLogger) Info(message string, attributes ...any) {
 	defer func() { _ = recover() }()
-	g.given.Info(message, attributes...)
+	g.given.Info(message, g.all(attributes)...)
 }
 
 func (g guardedLogger) Warn(message string, attributes ...any) {
 	defer func() { _ = recover() }()
-	g.given.Warn(message, attributes...)
+	g.given.Warn(message, g.all(attributes)...)
 }
 
 func (g guardedLogger) Error(message string, attributes ...any) {
 	defer func() { _ = recover() }()
-	g.given.Error(message, attributes...)
+	g.given.Error(message, g.all(attributes)...)
+}
+
+func (g guardedLogger) all(attributes []any) []any {
+	return append(append([]any{}, g.whose...), attributes...)
 }

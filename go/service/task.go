@@ -24,9 +24,10 @@ const (
 type TaskConfig struct {
 	Control []string // URLs of control planes
 	Job     string
-	Task    uint64 // 1 to 64; no two processes are one task
-	Logs    string // the folder of logs, which has one for each job; none is written if empty
-	State   string // the folder of tickets; that of logs if empty, and none if both are
+	Task    uint64  // 1 to 64; no two processes are one task
+	Logs    string  // the folder of logs, which has one for each job; none is written if empty
+	State   string  // the folder of tickets; that of logs if empty, and none if both are
+	Sample  float64 // the part of the answers of Serving whose calls are logged, all if 0
 
 	Policy map[string]any // creates the job if it is not there; nil if it is there
 	Secret string
@@ -111,13 +112,16 @@ func (c TaskConfig) withDefaults() TaskConfig {
 	if c.Patience == 0 {
 		c.Patience = time.Second
 	}
+	if c.Sample == 0 {
+		c.Sample = 1
+	}
 	if c.Report == 0 {
 		c.Report = 5 * time.Second
 	}
 	if c.local == nil {
 		c.local = hourstable.LocalTicks
 	}
-	c.Logger = loggerOr(c.Logger)
+	c.Logger = loggerOf(c.Logger, "job", c.Job, "task", c.Task)
 	return c
 }
 
@@ -155,7 +159,7 @@ func (t *Task) Run(ctx context.Context) error {
 	defer stop()
 	err := t.supervisor.guarded(func() error { return t.endLife(last) })
 	if err != nil {
-		t.config.Logger.Warn("a task ends with leases that were not freed", "task", t.config.Task, "error", err)
+		t.config.Logger.Warn("a task ends with leases that were not freed", "error", err)
 	}
 	t.supervisor.wait(last)
 	return ifNotEnded(ctx, why)
