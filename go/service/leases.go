@@ -38,13 +38,8 @@ func (l *leases) begin(last uint32) error {
 		return err
 	}
 	l.slicelet, l.held = slicelet, map[hourstable.Kind]hourstable.Grant{}
-	part, lacks := l.log.open()
-	l.part = part
-	members := map[string]any{"task": l.task, "life": last}
-	if lacks > 0 {
-		members["_lost"] = lacks // lines before this one
-	}
-	line, err := l.line("open", fmt.Sprintf("opened %d", last), members)
+	l.part = l.log.open()
+	line, err := l.line("open", fmt.Sprintf("opened %d", last), map[string]any{"task": l.task, "life": last})
 	if err != nil {
 		return err
 	}

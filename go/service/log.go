@@ -36,7 +36,7 @@ type callLog struct {
 	isClosed  bool
 	untold    error  // why the log stopped, until stopped is told
 	lost      uint64 // lines that were not written
-	told      uint64 // of them, those that a line has told of
+	missing   gap    // those of them that no line has told of
 	failures  backoff
 	since     time.Time // when it was opened, after a stop too
 	retryAt   time.Time // when a log that is stopped is tried again
@@ -45,12 +45,18 @@ type callLog struct {
 // probe is how much room a log that was stopped needs before it goes on.
 const probe = 1 << 16
 
+// gap says what a log lacks before its line.
+type gap struct {
+	Lines uint64 `json:"lines"`
+	From  uint64 `json:"from"` // ticket of the first
+	Until uint64 `json:"until"`
+}
+
 // batch is lines that are written together, so that who writes side by side waits for
 // one write.
 type batch struct {
 	part  uint64
-	text  []byte
-	count uint64
+	lines [][]byte
 	turn  chan struct{} // has something for one of those who wait, when it is to write the batch
 	done  chan struct{} // closed once it is written
 }
@@ -220,19 +226,54 @@ func (l *callLog) prove() error {
 }
 
 // open returns the part of the log in which a new life writes, 0 while the log is
-// stopped, and how many lines the log lacks of which no line has told.
-func (l *callLog) open() (part, lacks uint64) {
+// stopped. Before its lines one says what is missing.
+func (l *callLog) open() (part uint64) {
 	if l == nil {
-		return 0, 0
+		return 0
 	}
 	defer l.tell()
 	l.mutex.Lock()
 	defer l.mutex.Unlock()
 	if !l.isOpen() {
-		return 0, 0
+		return 0
 	}
-	lacks, l.told = l.lost-l.told, l.lost
-	return l.part, lacks
+	if err := l.tellGap(); err != nil {
+		l.stop(err)
+		return 0
+	}
+	return l.part
+}
+
+// tellGap writes what is missing; the mutex is held.
+func (l *callLog) tellGap() error {
+	if l.missing.Lines == 0 {
+		return nil
+	}
+	text, err := json.Marshal(map[string]gap{"gap": l.missing})
+	if err == nil {
+		_, err = l.file.Write(append(text, '\n'))
+	}
+	if err == nil {
+		l.missing = gap{}
+	}
+	return err
+}
+
+// lose counts lines that are not written; the mutex is held.
+func (l *callLog) lose(lines [][]byte) {
+	for _, line := range lines {
+		var call struct{ Ticket uint64 }
+		if json.Unmarshal(line, &call) != nil {
+			continue
+		}
+		l.lost++
+		if l.missing.Lines++; l.missing.From == 0 || call.Ticket < l.missing.From {
+			l.missing.From = call.Ticket
+		}
+		if call.Ticket > l.missing.Until {
+			l.missing.Until = call.Ticket
+		}
+	}
 }
 
 // goesOn says whether the log can be written again, after the part of a life.
@@ -249,14 +290,14 @@ func (l *callLog) goesOn(part uint64) bool {
 // append writes lines to a part of the log, which the system has when this returns.
 // If the log is stopped or in a later part, they are lost.
 func (l *callLog) append(part uint64, lines ...[]byte) {
-	if l == nil {
+	if l == nil || len(lines) == 0 {
 		return
 	}
 	defer l.tell()
 	l.mutex.Lock()
 	defer l.mutex.Unlock()
 	if l.file == nil || part != l.part {
-		l.lost += uint64(len(lines))
+		l.lose(lines)
 		return
 	}
 	mine := l.joined(lines)
@@ -283,30 +324,27 @@ func (l *callLog) joined(lines [][]byte) *batch {
 	if l.next == nil {
 		l.next = &batch{part: l.part, turn: make(chan struct{}, 1), done: make(chan struct{})}
 	}
-	for _, line := range lines {
-		l.next.text = append(append(l.next.text, line...), '\n')
-		l.next.count++
-	}
+	l.next.lines = append(l.next.lines, lines...)
 	return l.next
 }
 
 // write writes a batch. The mutex is held, but for the write itself.
-func (l *callLog) write(lines *batch) {
+func (l *callLog) write(one *batch) {
 	if day := utcDay(); l.file != nil && day != l.day {
 		if err := l.turn(day); err != nil {
 			l.stop(err)
 		}
 	}
-	if l.file == nil || lines.part != l.part { // it stopped while the batch waited
-		l.lost += lines.count
+	if l.file == nil || one.part != l.part { // it stopped while the batch waited
+		l.lose(one.lines)
 		return
 	}
 	file := l.file
 	l.mutex.Unlock()
-	_, err := file.Write(lines.text)
+	_, err := file.Write(append(bytes.Join(one.lines, []byte("\n")), '\n'))
 	l.mutex.Lock()
 	if err != nil {
-		l.lost += lines.count
+		l.lose(one.lines)
 		l.stop(err)
 	}
 }
@@ -327,7 +365,8 @@ func (l *callLog) close() {
 	}
 	l.mutex.Lock()
 	defer l.mutex.Unlock()
-	if l.file != nil {
+	if l.isOpen() {
+		l.tellGap() // if the disk takes it
 		l.file.Close()
 	}
 	l.file, l.isClosed = nil, true

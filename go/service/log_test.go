@@ -81,10 +81,16 @@ func TestAFullDiskStopsTheLogAlone(t *testing.T) {
 	eventually(t, "a new life is logged", func() bool { return task.Counts().Lives == 2 && task.serves("hello") })
 	missing := 0.0
 	for _, call := range linesOf(t, logs) {
-		if call["do"] == "open" && call["life"] == 1.0 {
-			missing, _ = call["_lost"].(float64)
-		} else if missing == 0 && call["do"] == "start" && call["life"] == 2.0 {
-			t.Error("life 2 starts where no line says that lines are missing")
+		if gap, isGap := call["gap"].(map[string]any); isGap {
+			missing, _ = gap["lines"].(float64)
+			if from, until := gap["from"].(float64), gap["until"].(float64); from <= 0 || from >= until {
+				t.Error(gap)
+			}
+		} else if missing > 0 {
+			if call["do"] != "open" || call["life"] != 1.0 {
+				t.Errorf("after the gap comes %v, and no life begins", call)
+			}
+			break
 		}
 	}
 	if uint64(missing) < counts.Unlogged {
@@ -101,7 +107,7 @@ func TestALogThatIsOpenedOnAFullDisk(t *testing.T) {
 		t.Fatal(err)
 	}
 	defer log.close()
-	part, _ := log.open()
+	part := log.open()
 	path := filepath.Join(folder, "task-1."+utcDay()+".jsonl")
 	if err := os.Remove(path); err != nil {
 		t.Fatal(err)
@@ -111,7 +117,7 @@ func TestALogThatIsOpenedOnAFullDisk(t *testing.T) {
 	}
 	log.file.Close() // the next write fails
 	log.failures = backoff{}
-	log.append(part, []byte("{}"))
+	log.append(part, []byte(`{"ticket":70}`))
 	for range [3]int{} {
 		if log.goesOn(part) {
 			t.Error("it goes on")
@@ -126,11 +132,11 @@ func TestALogThatIsOpenedOnAFullDisk(t *testing.T) {
 	if !log.goesOn(part) {
 		t.Error("there is room, and it does not go on")
 	}
-	log.append(part, []byte(`"of the life with the gap"`))
-	after, lacks := log.open()
-	log.append(after, []byte(`"of the next one"`))
-	if text, _ := os.ReadFile(path); lacks != 2 || string(text) != "{\"job\":{}}\n\"of the next one\"\n" {
-		t.Errorf("%d %q", lacks, text)
+	log.append(part, []byte(`{"ticket":90}`), []byte(`{"ticket":80}`)) // of the life with the gap
+	log.append(log.open(), []byte(`{"ticket":100}`))
+	wanted := `{"job":{}}` + "\n" + `{"gap":{"lines":3,"from":70,"until":90}}` + "\n" + `{"ticket":100}` + "\n"
+	if text, _ := os.ReadFile(path); string(text) != wanted {
+		t.Errorf("%q", text)
 	}
 }
 
@@ -302,8 +308,7 @@ func TestLogs(t *testing.T) {
 		if err != nil {
 			t.Fatal(err)
 		}
-		part, _ := log.open()
-		log.append(part, line)
+		log.append(log.open(), line)
 	}
 	holds := func(wanted string) {
 		t.Helper()
