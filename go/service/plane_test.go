@@ -30,7 +30,20 @@ type job struct {
 	term    uint64
 	lives   map[string]uint32
 	tickets uint64
+	drains  []uint64      // tasks
 	changed chan struct{} // closed at the next phase
+}
+
+func (j *job) drained() []uint64 {
+	j.mutex.Lock()
+	defer j.mutex.Unlock()
+	return append([]uint64{}, j.drains...)
+}
+
+func (j *job) drain(tasks ...uint64) {
+	j.mutex.Lock()
+	defer j.mutex.Unlock()
+	j.drains = tasks
 }
 
 func newJob(t *testing.T, guard uint64) *job {
@@ -138,7 +151,7 @@ func (p *testPlane) ServeHTTP(out http.ResponseWriter, in *http.Request) {
 	}
 	switch call {
 	case "shop":
-		answerWith(out, 200, map[string]any{"policy": p.job.policy})
+		answerWith(out, 200, map[string]any{"policy": p.job.policy, "draining": p.job.drained()})
 	case "phase":
 		p.job.answerPhase(out, in)
 	case "assignment":

@@ -47,11 +47,44 @@ func (t *Task) report(ctx context.Context) error {
 		}
 		_, err = t.control.call(ctx, request{method: http.MethodPost, path: "/loads", body: body})
 		if err == nil {
+			err = t.askIfDrained(ctx)
+		}
+		if err == nil {
 			failures.reset()
 		} else if err := t.waitAfter(ctx, err, failures); err != nil {
 			return err
 		}
 	}
+}
+
+// askIfDrained asks whether an operator drains the task, as long as it has no keys.
+func (t *Task) askIfDrained(ctx context.Context) error {
+	t.mutex.Lock()
+	mayBe := t.hasServed && len(t.served) == 0 && t.cutOff.IsZero()
+	t.mutex.Unlock()
+	if !mayBe {
+		t.drained(false)
+		return nil
+	}
+	var told struct{ Draining []uint64 }
+	_, err := t.control.call(ctx, request{method: http.MethodGet, read: func(made answer) error {
+		return made.object(&told)
+	}})
+	if err != nil {
+		return err
+	}
+	isDrained := false
+	for _, task := range told.Draining {
+		isDrained = isDrained || task == t.config.Task
+	}
+	t.drained(isDrained)
+	return nil
+}
+
+func (t *Task) drained(isDrained bool) {
+	t.mutex.Lock()
+	defer t.mutex.Unlock()
+	t.isDrained = isDrained
 }
 
 // told returns what a report says, and begins to count loads anew.
@@ -104,11 +137,10 @@ func (t *Task) countBehind() {
 	t.counts.ClockBehind++
 }
 
-func (t *Task) countUnreachable(why error) {
+func (t *Task) countUnreachable() {
 	t.mutex.Lock()
 	t.counts.Unreachable++
 	t.mutex.Unlock()
-	t.config.Logger.Info("no control plane did a call", "why", why)
 }
 
 // waitAfter waits after a call that no plane did. It returns the error if it is not one
@@ -124,7 +156,7 @@ func (t *Task) waitAfter(ctx context.Context, err error, failures *backoff) erro
 // waitOf counts a call that no plane did, and returns how long to wait before the next:
 // while a lease is held at most a fifth of the guard term.
 func (t *Task) waitOf(trouble *unreached, failures *backoff) time.Duration {
-	t.countUnreachable(trouble)
+	t.countUnreachable()
 	limit := time.Duration(0)
 	if held := t.life(); held != nil && held.hasLease() {
 		limit = t.guardFifth()

@@ -9,9 +9,9 @@ type State string
 const (
 	Starting State = "starting" // it has no lease, as before its first one
 	Serving  State = "serving"
-	Moving   State = "moving"  // it gives up keys
-	CutOff   State = "cut off" // no control plane gives it leases: it serves until those end that it has
-	Draining State = "draining"
+	Moving   State = "moving"   // it gives up keys
+	CutOff   State = "cut off"  // no control plane gives it leases: it serves until those end that it has
+	Draining State = "draining" // the context of Run has ended, or an operator drains the task and it has no keys
 	Stopped  State = "stopped"
 )
 
@@ -25,7 +25,7 @@ func (t *Task) State() (state State, since time.Time) {
 	switch {
 	case t.isStopped:
 		return Stopped, time.Time{}
-	case t.isDraining:
+	case t.isDraining || t.isDrained:
 		return Draining, time.Time{}
 	case !t.cutOff.IsZero():
 		return CutOff, t.cutOff
@@ -38,12 +38,12 @@ func (t *Task) State() (state State, since time.Time) {
 }
 
 // Ready says whether requests may be sent to the task, for a readiness probe: from its
-// first lease on, until the context of Run ends. It is true while the task is cut off,
-// so that control planes that are down empty no load balancer.
+// first lease on, until it is drained or the context of Run ends. It is true while the
+// task is cut off, so that control planes that are down empty no load balancer.
 func (t *Task) Ready() bool {
 	t.mutex.Lock()
 	defer t.mutex.Unlock()
-	return t.hasServed && !t.isDraining
+	return t.hasServed && !t.isDraining && !t.isDrained
 }
 
 func (t *Task) drain() {

@@ -80,3 +80,18 @@ func TestStatesWhileKeysMove(t *testing.T) {
 	task.is(t, Stopped, false)
 	job.commit() // the leases were freed
 }
+
+// An operator drains the task: it has no keys, and is not ready, until it has some again.
+func TestStatesOfATaskThatIsDrained(t *testing.T) {
+	job := newJob(t, 60_000)
+	task := runs(t, TaskConfig{Control: []string{job.plane().URL}, Report: 20 * time.Millisecond})
+	task.is(t, Serving, true)
+	job.drain(1, 7)
+	job.propose(`[["0",[2]]]`)
+	job.commit()
+	task.is(t, Draining, false)
+	job.drain(7)
+	job.propose(everyKey)
+	job.commit()
+	task.is(t, Serving, true)
+}

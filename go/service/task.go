@@ -70,7 +70,8 @@ type Task struct {
 	moving     []hourstable.Range
 	isBehind   bool
 	hasServed  bool // it had a lease
-	isDraining bool
+	isDraining bool // the context of Run has ended
+	isDrained  bool // an operator drains it, and it has no keys
 	isStopped  bool
 	cutOff     time.Time // since when no control plane gives leases; zero if one does
 	open       map[*Lease]struct{}
