@@ -21,9 +21,9 @@ const (
 	readingHeader = "Hourstable-Reading"
 	longestWait   = 30 * time.Second // of a GET that waits
 	usualTimeout  = 5 * time.Second
-	mostBytes     = 1 << 21 // of an answer
-	mostRetries   = 10      // that are saved up
-	callsPerRetry = 10
+	mostBytes     = 1 << 21         // of an answer
+	mostReading   = uint64(1) << 62 // those of a table are below it
+	toldAgain     = time.Minute     // after which a failure of a plane is logged once more
 )
 
 // control is the control planes of a job, of which one answers at a time. A call
@@ -35,17 +35,20 @@ type control struct {
 	local       func() (uint64, error)
 	timeout     time.Duration
 	logger      Logger
+	retries     *budget
 
 	mutex    sync.Mutex
 	urls     []string          // the one that answered last comes first
-	savings  int               // in calls: callsPerRetry of them are a retry
 	troubles map[string]uint64 // of planes, by what they are
+	told     map[string]time.Time
+	silences map[string]time.Duration // of planes that send beats
 }
 
 func newControl(urls []string, job string) *control {
 	made := &control{
 		job: job, client: http.DefaultClient, timeout: usualTimeout, logger: silent{},
-		savings: mostRetries * callsPerRetry, troubles: map[string]uint64{},
+		retries: newBudget(0), troubles: map[string]uint64{},
+		told: map[string]time.Time{}, silences: map[string]time.Duration{},
 	}
 	for _, one := range urls {
 		made.urls = append(made.urls, strings.TrimRight(one, "/"))
@@ -80,7 +83,7 @@ func shown(plane string) string {
 type request struct {
 	method, path string
 	body         []byte
-	timeout      time.Duration      // that of the control planes if 0
+	timeout      time.Duration      // of a GET that waits; that of the control planes if 0
 	read         func(answer) error // takes the answer: an error if no control plane answers so
 }
 
@@ -103,7 +106,7 @@ func (a answer) object(members any) error {
 
 // unreached is why planes did not do a call, and when to ask again.
 type unreached struct {
-	what      string // connection, answer, or a status
+	what      string // connection, unreadable, or a status
 	request   string // its ticket
 	why       error
 	after     time.Duration // what the plane asks for
@@ -139,7 +142,8 @@ func (c *control) call(ctx context.Context, asked request) (answer, error) {
 	failed := &unreached{what: "connection", why: errors.New("there is no control plane")}
 	isBusy, missing := false, 0
 	var tried []string
-	for plane := c.next(tried); plane != "" && c.mayAsk(len(tried)); plane = c.next(tried) {
+	c.retries.add()
+	for plane := c.next(tried); plane != "" && (len(tried) == 0 || c.retries.take()); plane = c.next(tried) {
 		made, err := c.try(ctx, plane, asked)
 		if !errors.As(err, &failed) {
 			return made, err
@@ -171,35 +175,30 @@ next:
 	return ""
 }
 
-// mayAsk says whether a call that was made so often may be made again. There is a
-// retry for each ten calls.
-func (c *control) mayAsk(times int) bool {
-	c.mutex.Lock()
-	defer c.mutex.Unlock()
-	if times == 0 {
-		if c.savings < mostRetries*callsPerRetry {
-			c.savings++
-		}
-		return true
+// leave puts a plane last that failed, counts it and logs it once a minute. A call that
+// failed beside this one does not bring it back.
+func (c *control) leave(plane string, why *unreached) {
+	if c.left(plane, why) {
+		c.logger.Warn("a control plane did not do a call",
+			"plane", shown(plane), "request", why.request, "why", why.why, "mend", mending(why.what))
 	}
-	if c.savings < callsPerRetry {
-		return false
-	}
-	c.savings -= callsPerRetry
-	return true
 }
 
-// leave puts a plane last that failed, and counts it. A call that failed beside this
-// one does not bring it back.
-func (c *control) leave(plane string, why *unreached) {
+// left returns whether the failure is to be logged.
+func (c *control) left(plane string, why *unreached) bool {
 	c.mutex.Lock()
+	defer c.mutex.Unlock()
 	c.troubles[why.what]++
 	if len(c.urls) > 0 && c.urls[0] == plane {
 		c.urls = append(c.urls[1:len(c.urls):len(c.urls)], plane)
 	}
-	c.mutex.Unlock()
-	c.logger.Warn("a control plane did not do a call",
-		"plane", shown(plane), "request", why.request, "why", why.why, "mend", mending(why.what))
+	name, now := plane+" "+why.what, time.Now()
+	last, isTold := c.told[name]
+	if isTold && now.Sub(last) < toldAgain {
+		return false
+	}
+	c.told[name] = now
+	return true
 }
 
 // mending returns what an operator does about a failure.
@@ -207,7 +206,7 @@ func mending(what string) string {
 	switch what {
 	case "connection":
 		return "see that the plane runs and is reached from here"
-	case "answer":
+	case "unreadable":
 		return "see that the URL is that of a plane, and what stands between"
 	case "401", "403":
 		return "give the secret of the plane, or let a proxy pass it"
@@ -244,8 +243,11 @@ func (c *control) try(ctx context.Context, plane string, asked request) (answer,
 	if err != nil {
 		return answer{}, err
 	}
+	if asked.timeout > 0 {
+		posed.Header.Set(beatHeader, "1")
+	}
 	made, err := answer{}, error(nil)
-	if response, text, failed := c.fetch(posed); failed != nil {
+	if response, text, failed := c.fetch(plane, posed, cancel); failed != nil {
 		err = &unreached{what: "connection", why: failed}
 	} else {
 		made, err = c.taken(response, text, sent, asked)
@@ -275,14 +277,46 @@ func (c *control) prepare(posed *http.Request) (sent uint64, err error) {
 	return c.local()
 }
 
-func (c *control) fetch(posed *http.Request) (*http.Response, []byte, error) {
+// fetch returns a response of a plane and its body; cancel ends the request. A plane
+// that has sent beats begins to answer a GET that waits at once.
+func (c *control) fetch(plane string, posed *http.Request, cancel context.CancelFunc) (*http.Response, []byte, error) {
+	waits := posed.Header.Get(beatHeader) != ""
+	var head *time.Timer
+	if silence := c.silenceOf(plane); waits && silence > 0 {
+		head = time.AfterFunc(silence, cancel)
+	}
 	response, err := c.client.Do(posed)
+	if head != nil && !head.Stop() && err != nil {
+		return nil, nil, errSilent
+	}
 	if err != nil {
 		return nil, nil, err
 	}
 	defer response.Body.Close()
+	silence := silenceIn(response.Header)
+	if waits {
+		c.hear(plane, silence)
+	}
+	if silence > 0 && hasBeats(response.Header) {
+		text, err := beaten(response, silence, cancel)
+		return response, text, err
+	}
 	text, err := io.ReadAll(io.LimitReader(response.Body, mostBytes))
 	return response, text, err
+}
+
+// silenceOf returns after how much silence a call of a plane ends that waits, 0 if
+// nothing is known of its beats.
+func (c *control) silenceOf(plane string) time.Duration {
+	c.mutex.Lock()
+	defer c.mutex.Unlock()
+	return c.silences[plane]
+}
+
+func (c *control) hear(plane string, silence time.Duration) {
+	c.mutex.Lock()
+	defer c.mutex.Unlock()
+	c.silences[plane] = silence
 }
 
 // taken returns the answer of a response, or what is wrong with it.
@@ -291,17 +325,20 @@ func (c *control) taken(response *http.Response, text []byte, sent uint64, asked
 		return answer{}, refusal(response, text)
 	}
 	made := answer{status: response.StatusCode, body: text, sent: sent}
-	err := c.tickets.observe(response.Header.Get(ticketHeader))
-	if given := response.Header.Get(readingHeader); err == nil && given != "" {
+	c.tickets.observe(response.Header.Get(ticketHeader))
+	var err error
+	if given := response.Header.Get(readingHeader); given != "" {
 		var reading uint64
-		reading, err = strconv.ParseUint(given, 10, 64)
+		if reading, err = strconv.ParseUint(given, 10, 64); reading >= mostReading {
+			err = fmt.Errorf("%d is no reading", reading)
+		}
 		made.reading = &reading
 	}
 	if err == nil && asked.read != nil {
 		err = asked.read(made)
 	}
 	if err != nil {
-		return answer{}, &unreached{what: "answer", why: fmt.Errorf("%d: %w", made.status, err)}
+		return answer{}, &unreached{what: "unreadable", why: fmt.Errorf("%d: %w", made.status, err)}
 	}
 	return made, nil
 }

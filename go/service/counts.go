@@ -14,9 +14,9 @@ type Counts struct {
 
 // Troubles are what a task or a router counted of failures since its start.
 type Troubles struct {
-	Planes     map[string]uint64 // of control planes: connection, answer for one of a wrong form, or the status
+	Planes     map[string]uint64 // of control planes: connection, unreadable, or the status
 	Internal   map[string]uint64 // what was not expected, a panic for instance, by where
-	Unobserved uint64            // tickets above 2^47 ms
+	Unobserved uint64            // tickets above 2^47 ms, or that are no numbers
 	Unlogged   uint64            // lines that the log lacks
 }
 

@@ -70,8 +70,8 @@ func TestTicketsOutlastAProcess(t *testing.T) {
 	if first>>8 != 1 || second>>8 != 2 || second&255 != 64 {
 		t.Errorf("drawn %d %d", first, second)
 	}
-	if err := one.observe("66816"); err != nil || drawn(t, one)>>8 != 262 { // 66816 is 261 * 256
-		t.Errorf("observed 261: %v", err)
+	if one.observe("66816"); drawn(t, one)>>8 != 262 { // 66816 is 261 * 256
+		t.Error("261 is not observed")
 	}
 	one.close()
 	again, err := openTickets(64, path)

@@ -107,10 +107,12 @@ func (t *Task) ask(ctx context.Context, held *leases) (time.Duration, error) {
 		return 0, err
 	}
 	t.reached(nil)
-	if err := held.sample(made); err != nil {
-		return 0, err
+	if made.reading != nil { // an answer that repeats an earlier one has none
+		if err := held.sample(made); err != nil {
+			return 0, err
+		}
 	}
-	if started, _ := held.state(); !started {
+	if started, sampled := held.state(); sampled && !started {
 		if err := held.start(); err != nil {
 			return 0, err
 		}
@@ -135,9 +137,6 @@ func (t *Task) ask(ctx context.Context, held *leases) (time.Duration, error) {
 
 // isGrant returns why an answer is none to a request for a grant.
 func (t *Task) isGrant(made answer, held *leases) error {
-	if made.reading == nil {
-		return errors.New("the answer has no reading")
-	}
 	if made.status == http.StatusConflict {
 		var told struct{ Refused string }
 		if err := made.object(&told); err != nil || told.Refused == "" {

@@ -12,7 +12,10 @@ import (
 	"hourstable"
 )
 
-const firstRouter = 144 // the number of the process whose tickets a router draws: no log has them
+const (
+	firstRouter    = 144 // the number of the process whose tickets a router draws: no log has them
+	retriesASecond = 10  // of Send, beside a tenth of its calls
+)
 
 // RouterConfig says of which job a router finds owners.
 type RouterConfig struct {
@@ -31,6 +34,7 @@ type Router struct {
 	control    *control
 	clerk      *hourstable.Clerk
 	supervisor *supervisor
+	retries    *budget // of Send
 
 	mutex      sync.Mutex
 	generation uint64
@@ -60,6 +64,7 @@ func NewRouter(config RouterConfig) (*Router, error) {
 	made := &Router{
 		config: config, clerk: clerk, underway: map[uint64]int{}, changed: make(chan struct{}),
 		control: newControl(config.Control, config.Job), supervisor: newSupervisor(config.Logger),
+		retries: newBudget(retriesASecond),
 	}
 	made.control.secret, made.control.client, made.control.logger = config.Secret, config.Client, config.Logger
 	made.control.tickets, made.control.local = drawn, hourstable.LocalTicks
@@ -174,31 +179,49 @@ func (n *noOwner) Is(target error) bool { return target == ErrNoOwner }
 
 // Send returns nil once an attempt at an owner of a key did. An attempt that returns
 // ErrAgain is made again, with waits that grow, at an owner as known then, until the
-// context ends: then the last error of an attempt is returned, or ErrNoOwner.
+// context ends: then the last error of an attempt is returned, or ErrNoOwner. Attempts
+// that are made again at one owner are at most a tenth of all calls, and ten a second.
 func (r *Router) Send(ctx context.Context, key string, attempt func(ctx context.Context, task uint64) error) error {
 	failures := &backoff{least: 10 * time.Millisecond, most: 500 * time.Millisecond}
+	tried := map[place]bool{}
+	var failed error
+	r.retries.add()
 	for {
 		r.mutex.Lock()
 		changed := r.changed
 		r.mutex.Unlock()
-		err := r.attempt(ctx, key, attempt)
-		if !errors.Is(err, ErrAgain) && !errors.Is(err, ErrNoOwner) {
-			return err
+		if isMade, err := r.attempt(ctx, key, tried, attempt); isMade {
+			if !errors.Is(err, ErrAgain) && !errors.Is(err, ErrNoOwner) {
+				return err
+			}
+			failed = err
 		}
 		if pause(ctx, failures.wait(), changed) != nil {
-			return err
+			return failed
 		}
 	}
 }
 
-func (r *Router) attempt(ctx context.Context, key string, attempt func(context.Context, uint64) error) error {
+// place is an owner of a key in a generation.
+type place struct{ generation, task uint64 }
+
+// attempt makes an attempt at an owner, and says whether it did: not at one that was
+// tried if no retry is left.
+func (r *Router) attempt(
+	ctx context.Context, key string, tried map[place]bool, attempt func(context.Context, uint64) error,
+) (isMade bool, err error) {
 	found, err := r.Owners(key)
 	if err != nil {
-		return err
+		return true, err
 	}
 	task := r.pick(found.Tasks)
 	defer r.done(task)
-	return attempt(ctx, task)
+	it := place{found.Generation, task}
+	if tried[it] && !r.retries.take() {
+		return false, nil
+	}
+	tried[it] = true
+	return true, attempt(ctx, task)
 }
 
 // pick picks the owner to which the fewest attempts are underway, of several at

@@ -7,7 +7,6 @@ import (
 	"os"
 	"path/filepath"
 	"strconv"
-	"strings"
 	"sync"
 	"syscall"
 )
@@ -139,15 +138,12 @@ func (t *tickets) draw() (uint64, error) {
 	return place<<processBits | t.process, nil
 }
 
-// observe takes the ticket in the header of an answer, before its effects draw one. A
-// ticket that no clock shows is not observed, and counted: it would use up the tickets
-// of all. The real time of this host does not matter, as it may be the wrong one.
-func (t *tickets) observe(text string) error {
+// observe takes the ticket in the header of an answer, before its effects draw one. One
+// that is no number, or that no clock shows, is not observed, and counted: it would use
+// up the tickets of all. The real time of this host does not matter, as it may be wrong.
+func (t *tickets) observe(text string) {
 	if text == "" {
-		return nil
-	}
-	if strings.Trim(text, "0123456789") != "" {
-		return fmt.Errorf("%.40q is no ticket", text)
+		return
 	}
 	ticket, err := strconv.ParseUint(text, 10, 64)
 	t.mutex.Lock()
@@ -157,7 +153,6 @@ func (t *tickets) observe(text string) error {
 	} else if place := ticket >> processBits; place > t.last {
 		t.last = place
 	}
-	return nil
 }
 
 // counts returns how many tickets were not observed, and how often the disk did not

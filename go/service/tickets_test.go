@@ -12,21 +12,14 @@ import (
 
 func TestTicketsThatAreNotObserved(t *testing.T) {
 	from, _ := openTickets(64, "")
-	for _, text := range []string{"-1", "x", "7x"} {
-		if from.observe(text) == nil {
-			t.Errorf("observed %s", text)
-		}
-	}
-	// Of 2^47 ms and more, and of more than 64 bits: nobody is refused for them.
-	for _, text := range []string{"9223372036854775808", "18446744073709551615", "18446744073709551616"} {
-		if err := from.observe(text); err != nil {
-			t.Error(err)
-		}
+	// No numbers, of 2^47 ms and more, and of more than 64 bits.
+	for _, text := range []string{"-1", "x", "7x", "9223372036854775808", "18446744073709551615", "18446744073709551616"} {
+		from.observe(text)
 	}
 	if drawn(t, from)>>8 != 1 {
 		t.Error("what was not observed counts")
 	}
-	if passed, _ := from.counts(); passed != 3 {
+	if passed, _ := from.counts(); passed != 6 {
 		t.Errorf("%d tickets were counted", passed)
 	}
 }
@@ -36,9 +29,7 @@ func TestTicketsOfAPlaneThatIsAhead(t *testing.T) {
 	from, _ := openTickets(64, "")
 	ahead := uint64(time.Now().Add(48*time.Hour).UnixMilli()) << 16
 	for _, ticket := range []uint64{ahead, math.MaxInt64} { // the last one is the greatest below 2^47 ms
-		if err := from.observe(fmt.Sprint(ticket)); err != nil {
-			t.Fatal(err)
-		}
+		from.observe(fmt.Sprint(ticket))
 		if after := drawn(t, from); after <= ticket {
 			t.Errorf("%d was drawn after %d", after, ticket)
 		}

@@ -7,6 +7,7 @@ import (
 	"net/http"
 	"strings"
 	"sync"
+	"sync/atomic"
 	"testing"
 	"time"
 )
@@ -30,11 +31,11 @@ var wrongAnswers = map[string]func(http.ResponseWriter){
 	},
 	"a reading that is no number": func(out http.ResponseWriter) {
 		out.Header().Set(readingHeader, "soon")
-		out.Write([]byte("{}"))
+		out.Write([]byte(`{"refused":"no-assignment"}`))
 	},
-	"a ticket that is no number": func(out http.ResponseWriter) {
-		out.Header().Set(ticketHeader, "soon")
-		out.Write([]byte("{}"))
+	"a reading beyond those of a table": func(out http.ResponseWriter) {
+		out.Header().Set(readingHeader, "4611686018427387904")
+		out.Write([]byte(`{"refused":"no-assignment"}`))
 	},
 }
 
@@ -61,6 +62,24 @@ func TestAWrongAnswerIsATroubleOfItsPlane(t *testing.T) {
 				t.Errorf("%+v", counts)
 			}
 		})
+	}
+}
+
+// A ticket that cannot be read is no reason to refuse an answer.
+func TestAWrongTicketRefusesNoAnswer(t *testing.T) {
+	job := newJob(t, 2000)
+	plane := job.plane()
+	plane.fail(func(out http.ResponseWriter, _ *http.Request) bool {
+		out.Header().Set(ticketHeader, "soon")
+		return false
+	})
+	job.mutex.Lock()
+	job.tickets = 1 << 63 // 2^47 ms, for grants
+	job.mutex.Unlock()
+	task := runs(t, TaskConfig{Control: []string{plane.URL}})
+	task.renews(t)
+	if counts := task.Counts(); counts.Unobserved < 4 || len(counts.Planes) != 0 {
+		t.Errorf("%+v", counts)
 	}
 }
 
@@ -174,6 +193,36 @@ func TestRetriesAreATenthOfTheCalls(t *testing.T) {
 	}
 	if asked < calls+calls/10 || asked > calls+calls/10+mostRetries {
 		t.Errorf("%d calls were %d requests", calls, asked)
+	}
+}
+
+// Clients do not ask a task that denies many times as often.
+func TestAttemptsThatAreMadeAgain(t *testing.T) {
+	job := newJob(t, 60_000)
+	router := routes(t, job.plane().URL)
+	eventually(t, "the router knows the owner", func() bool { _, err := router.Owners("hello"); return err == nil })
+	const clients = 100
+	var attempts int64
+	begun := time.Now()
+	ctx, cancel := context.WithTimeout(context.Background(), 2*time.Second)
+	defer cancel()
+	ended := make(chan error, clients)
+	for range [clients]int{} {
+		go func() {
+			ended <- router.Send(ctx, "hello", func(context.Context, uint64) error {
+				atomic.AddInt64(&attempts, 1)
+				return ErrAgain
+			})
+		}()
+	}
+	for range [clients]int{} {
+		if err := <-ended; !errors.Is(err, ErrAgain) {
+			t.Error(err)
+		}
+	}
+	most := clients + clients/10 + mostRetries + int64(time.Since(begun).Seconds()+1)*retriesASecond
+	if attempts < clients || attempts > most {
+		t.Errorf("%d attempts, at most %d", attempts, most)
 	}
 }
 
