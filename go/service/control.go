@@ -19,7 +19,8 @@ import (
 const (
 	ticketHeader  = "Hourstable-Ticket"
 	readingHeader = "Hourstable-Reading"
-	longestWait   = 30 * time.Second // of a GET that waits
+	requestHeader = "Hourstable-Request" // by which the log of a plane names the request
+	longestWait   = 30 * time.Second     // of a GET that waits
 	usualTimeout  = 5 * time.Second
 	mostBytes     = 1 << 21         // of an answer
 	mostReading   = uint64(1) << 62 // those of a table are below it
@@ -107,7 +108,7 @@ func (a answer) object(members any) error {
 // unreached is why planes did not do a call, and when to ask again.
 type unreached struct {
 	what      string // connection, unreadable, or a status
-	request   string // its ticket
+	request   string // its id
 	why       error
 	after     time.Duration // what the plane asks for
 	isBusy    bool          // a plane is at a limit
@@ -257,7 +258,7 @@ func (c *control) try(ctx context.Context, plane string, asked request) (answer,
 	}
 	var trouble *unreached
 	if errors.As(err, &trouble) {
-		trouble.request = posed.Header.Get(ticketHeader)
+		trouble.request = posed.Header.Get(requestHeader)
 	}
 	return made, err
 }
@@ -274,6 +275,7 @@ func (c *control) prepare(posed *http.Request) (sent uint64, err error) {
 		return 0, err
 	}
 	posed.Header.Set(ticketHeader, strconv.FormatUint(ticket, 10))
+	posed.Header.Set(requestHeader, posed.Header.Get(ticketHeader))
 	return c.local()
 }
 

@@ -113,6 +113,14 @@ type testPlane struct {
 	mutex sync.Mutex
 	wrong func(http.ResponseWriter, *http.Request) bool // answers in place of the plane, if it does
 	asked map[string][]time.Time                        // by the last word of the path
+	first string                                        // id of a request
+}
+
+// request returns the id of the first request.
+func (p *testPlane) request() string {
+	p.mutex.Lock()
+	defer p.mutex.Unlock()
+	return p.first
 }
 
 func (j *job) plane() *testPlane {
@@ -141,6 +149,9 @@ func (p *testPlane) ServeHTTP(out http.ResponseWriter, in *http.Request) {
 	p.mutex.Lock()
 	wrong := p.wrong
 	p.asked[call] = append(p.asked[call], time.Now())
+	if p.first == "" {
+		p.first = in.Header.Get(requestHeader)
+	}
 	p.mutex.Unlock()
 	if wrong != nil && wrong(out, in) {
 		return

@@ -87,7 +87,11 @@ func NewTask(config TaskConfig) (*Task, error) {
 	}
 	config = config.withDefaults()
 	process := uint8(firstProcess + config.Task - 1)
-	drawn, err := openTickets(process, config.ticketFile())
+	path, err := config.ticketFile()
+	if err != nil {
+		return nil, err
+	}
+	drawn, err := openTickets(process, path)
 	if err != nil {
 		return nil, err
 	}
@@ -126,16 +130,21 @@ func (c TaskConfig) withDefaults() TaskConfig {
 	return c
 }
 
-// ticketFile returns the path of the tickets, "" for none.
-func (c TaskConfig) ticketFile() string {
-	folder := c.State
-	if folder == "" {
-		folder = c.Logs
+// ticketFile returns the path of the tickets, "" for none. A file in the folder of logs
+// is moved to that of state.
+func (c TaskConfig) ticketFile() (string, error) {
+	name := filepath.Join(c.Job, fmt.Sprintf("task-%d.ticket", c.Task))
+	beside := filepath.Join(c.Logs, name)
+	switch {
+	case c.State == "" && c.Logs == "":
+		return "", nil
+	case c.State == "":
+		return beside, nil
+	case c.Logs == "":
+		return filepath.Join(c.State, name), nil
 	}
-	if folder == "" {
-		return ""
-	}
-	return filepath.Join(folder, c.Job, fmt.Sprintf("task-%d.ticket", c.Task))
+	path := filepath.Join(c.State, name)
+	return path, moveTickets(beside, path)
 }
 
 // Run follows the table until the context ends, then gives up all leases and frees

@@ -3,7 +3,9 @@ package service
 import (
 	"bytes"
 	"encoding/binary"
+	"errors"
 	"fmt"
+	"io"
 	"os"
 	"path/filepath"
 	"strconv"
@@ -62,6 +64,39 @@ func openTickets(process uint8, path string) (*tickets, error) {
 		return nil, fmt.Errorf("%s: %w", path, err)
 	}
 	return made, nil
+}
+
+// moveTickets moves a file of tickets, unless there is one at its new place. An error if
+// a process has it.
+func moveTickets(from, to string) error {
+	file, err := os.Open(from)
+	if errors.Is(err, os.ErrNotExist) {
+		return nil
+	}
+	if err != nil {
+		return err
+	}
+	defer file.Close()
+	if _, err := os.Stat(to); !errors.Is(err, os.ErrNotExist) {
+		return err
+	}
+	if err := syscall.Flock(int(file.Fd()), syscall.LOCK_EX|syscall.LOCK_NB); err != nil {
+		return fmt.Errorf("%s: another process draws from it: %w", from, err)
+	}
+	if err := os.MkdirAll(filepath.Dir(to), 0o700); err != nil {
+		return err
+	}
+	text, err := io.ReadAll(io.LimitReader(file, fileLength+1))
+	if err != nil {
+		return err
+	}
+	if err := os.WriteFile(to+".new", text, 0o600); err != nil { // it may be on another disk
+		return err
+	}
+	if err := os.Rename(to+".new", to); err != nil {
+		return err
+	}
+	return os.Remove(from)
 }
 
 func (t *tickets) open(file *os.File) error {

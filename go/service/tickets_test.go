@@ -1,8 +1,10 @@
 package service
 
 import (
+	"errors"
 	"fmt"
 	"math"
+	"os"
 	"path/filepath"
 	"testing"
 	"time"
@@ -33,6 +35,43 @@ func TestTicketsOfAPlaneThatIsAhead(t *testing.T) {
 		if after := drawn(t, from); after <= ticket {
 			t.Errorf("%d was drawn after %d", after, ticket)
 		}
+	}
+}
+
+// A task whose state is moved out of the folder of logs draws on above its earlier tickets.
+func TestTicketsThatMoveToTheirOwnFolder(t *testing.T) {
+	config := TaskConfig{Control: []string{"http://127.0.0.1:1"}, Job: "shop", Task: 1, Logs: t.TempDir()}
+	draw := func() (uint64, error) {
+		task, err := NewTask(config)
+		if err != nil {
+			return 0, err
+		}
+		defer task.tickets.close()
+		return task.tickets.draw()
+	}
+	first, err := draw()
+	if err != nil {
+		t.Fatal(err)
+	}
+	beside := filepath.Join(config.Logs, "shop", "task-1.ticket")
+	used, err := openTickets(64, beside)
+	if err != nil {
+		t.Fatal(err)
+	}
+	config.State = filepath.Join(t.TempDir(), "state")
+	if _, err := draw(); err == nil {
+		t.Error("the file of a process that runs is moved")
+	}
+	used.close()
+	for range [2]int{} {
+		next, err := draw()
+		if err != nil || next <= first {
+			t.Errorf("%d was drawn after %d: %v", next, first, err)
+		}
+		first = next
+	}
+	if _, err := os.Stat(beside); !errors.Is(err, os.ErrNotExist) {
+		t.Error("the file of tickets still stands among the logs:", err)
 	}
 }
 
