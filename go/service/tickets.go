@@ -70,7 +70,7 @@ func openTickets(process uint8, path string) (*tickets, error) {
 // a process has it.
 func moveTickets(from, to string) error {
 	file, err := os.Open(from)
-	if errors.Is(err, os.ErrNotExist) {
+	if errors.Is(err, os.ErrNotExist) || errors.Is(err, syscall.ENOTDIR) {
 		return nil
 	}
 	if err != nil {
