@@ -30,6 +30,8 @@ type callLog struct {
 	mutex     sync.Mutex
 	day       string
 	file      *os.File // nil while the log is stopped
+	size      int64    // of what is written to the file
+	allocated int64    // to its end
 	part      uint64   // 1, and one more after each stop
 	next      *batch   // lines that wait for those that are being written; nil for none
 	isWriting bool
@@ -104,10 +106,33 @@ func (l *callLog) turn(day string) error {
 		file.Close()
 		return fmt.Errorf("%s: %w", path, err)
 	}
+	found, err := file.Stat()
+	if err != nil {
+		file.Close()
+		return err
+	}
 	if l.file != nil {
+		if before, err := l.file.Stat(); err == nil {
+			l.file.Truncate(before.Size()) // what was allocated beyond it is free again
+		}
 		l.file.Close()
 	}
 	l.file, l.day = file, day
+	l.size, l.allocated = found.Size(), found.Size()
+	return nil
+}
+
+// reserve allocates room for what is written next. A disk that is full refuses the next
+// segment while the last one has room, and so tears no line.
+func (l *callLog) reserve(length int) error {
+	needed := l.size + int64(length) + spare
+	if needed <= l.allocated {
+		return nil
+	}
+	if err := allocate(l.file, l.size, needed+segment-l.size); err != nil {
+		return err
+	}
+	l.allocated = needed + segment
 	return nil
 }
 
@@ -222,6 +247,7 @@ func (l *callLog) prove() error {
 	if failed := l.file.Truncate(found.Size()); err == nil {
 		err = failed
 	}
+	l.allocated = found.Size() // and no more, since it was cut
 	return err
 }
 
@@ -254,6 +280,7 @@ func (l *callLog) tellGap() error {
 		_, err = l.file.Write(append(text, '\n'))
 	}
 	if err == nil {
+		l.size += int64(len(text)) + 1
 		l.missing = gap{}
 	}
 	return err
@@ -339,14 +366,19 @@ func (l *callLog) write(one *batch) {
 		l.lose(one.lines)
 		return
 	}
-	file := l.file
-	l.mutex.Unlock()
-	_, err := file.Write(append(bytes.Join(one.lines, []byte("\n")), '\n'))
-	l.mutex.Lock()
+	file, text := l.file, append(bytes.Join(one.lines, []byte("\n")), '\n')
+	err := l.reserve(len(text))
+	if err == nil {
+		l.mutex.Unlock()
+		_, err = file.Write(text)
+		l.mutex.Lock()
+	}
 	if err != nil {
 		l.lose(one.lines)
 		l.stop(err)
+		return
 	}
+	l.size += int64(len(text))
 }
 
 // lacks returns how many lines were not written.

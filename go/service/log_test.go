@@ -98,6 +98,54 @@ func TestAFullDiskStopsTheLogAlone(t *testing.T) {
 	}
 }
 
+// A log is written to room that was allocated ahead, and gives back at the end of a day what it does not need.
+func TestALogIsAllocatedAhead(t *testing.T) {
+	folder := t.TempDir()
+	probe, err := os.Create(filepath.Join(folder, "probe"))
+	if err != nil {
+		t.Fatal(err)
+	}
+	defer probe.Close()
+	if err := syscall.Fallocate(int(probe.Fd()), 1, 0, 1<<20); err != nil {
+		t.Skipf("skipped, as the file system allocates nothing ahead: %v", err)
+	}
+	log, err := openLog(folder, "task-1", []byte(`{"job":{}}`), func(why error) { t.Error(why) })
+	if err != nil {
+		t.Fatal(err)
+	}
+	defer log.close()
+	path := filepath.Join(folder, "task-1."+utcDay()+".jsonl")
+	ahead := func(of string) int64 { // bytes that are allocated and not written
+		t.Helper()
+		var found syscall.Stat_t
+		if err := syscall.Stat(of, &found); err != nil {
+			t.Fatal(err)
+		}
+		return found.Blocks*512 - found.Size
+	}
+	line := []byte(`{"ticket":` + strings.Repeat("1", 1000) + "}")
+	written := int64(len(`{"job":{}}`) + 1)
+	for range [3000]int{} { // beyond two segments
+		log.append(log.open(), line)
+		written += int64(len(line)) + 1
+		if found := ahead(path); found < spare {
+			t.Fatalf("%d bytes are allocated ahead", found)
+		}
+	}
+	if found, err := os.Stat(path); err != nil || found.Size() != written {
+		t.Error(found, err)
+	}
+	log.mutex.Lock()
+	err = log.turn("2001-02-03")
+	log.mutex.Unlock()
+	if err != nil {
+		t.Fatal(err)
+	}
+	if found, err := os.Stat(path); err != nil || found.Size() != written || ahead(path) >= segment {
+		t.Error(found, ahead(path), err)
+	}
+}
+
 // A file on a full disk can be opened. That does not end a life.
 func TestALogThatIsOpenedOnAFullDisk(t *testing.T) {
 	folder := t.TempDir()
