@@ -247,7 +247,8 @@ func TestAThinnedLog(t *testing.T) {
 		case 1:
 			least, most = 200, 200
 		}
-		if answers := counts["serve"]; answers < least || answers > most || counts["hold"] != answers || counts["check"] != answers {
+		answers := counts["serve"]
+		if answers < least || answers > most || counts["hold"] != answers || counts["check"] != answers {
 			t.Errorf("%v: %v", part, counts)
 		}
 	}

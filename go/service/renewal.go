@@ -46,18 +46,16 @@ func (t *Task) act(ctx context.Context) error {
 
 // step does one thing, and returns for how long nothing is to be done.
 func (t *Task) step(ctx context.Context) (time.Duration, error) {
-	if held := t.life(); held != nil {
-		left, err := held.slicelet.CallsLeft()
-		if err != nil {
-			return 0, err
-		}
-		if left < lastCalls || t.log.goesOn(held.part) {
-			return 0, t.endLife(ctx)
-		}
-	}
 	held := t.life()
 	if held == nil {
 		return 0, t.beginLife(ctx)
+	}
+	left, err := held.slicelet.CallsLeft()
+	if err != nil {
+		return 0, err
+	}
+	if left < lastCalls || t.log.goesOn(held.part) {
+		return 0, t.endLife(ctx)
 	}
 	if _, sampled := held.state(); !sampled {
 		return t.ask(ctx, held)
@@ -77,7 +75,14 @@ func (t *Task) step(ctx context.Context) (time.Duration, error) {
 	if phase == nil {
 		return t.rest(ctx, held, at, hourstable.Guard)
 	}
-	action, err := held.slicelet.Next(*phase, at)
+	return t.next(ctx, held, *phase, at)
+}
+
+// next does what the slicelet says, in a phase of the table.
+func (t *Task) next(
+	ctx context.Context, held *leases, phase hourstable.Phase, at uint64,
+) (time.Duration, error) {
+	action, err := held.slicelet.Next(phase, at)
 	if err != nil {
 		return 0, err
 	}
