@@ -23,12 +23,12 @@ import "sync"
 
 // Drift is how far a task's clock may fall behind the table's: while the local
 // clock of the task gains Per ticks, that of the table gains at most Per + Extra,
-// and Grain ticks more. 201 in 1,000,000 with a grain of 2 is enough for clocks
-// that each keep within 100 parts in a million (docs/OPERATIONS.md).
+// and Grain ticks more. 1,001 in 1,000,000 with a grain of 2 is enough for clocks
+// that each keep within 500 parts in a million (docs/OPERATIONS.md).
 type Drift struct{ Extra, Per, Grain uint64 }
 
 // TaskClock gives the readings of a task, from answers of the table and a local
-// clock that counts while the machine is suspended, such as BoottimeTicks. A new
+// clock that counts while the machine is suspended, such as LocalTicks. A new
 // life of a task has a new clock.
 type TaskClock struct {
 	mutex sync.Mutex

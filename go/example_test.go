@@ -46,7 +46,7 @@ func ExampleSlicelet() {
 // A task's reading is at most that of the table in its best answer and the local
 // time since it asked, stretched by the drift.
 func ExampleTaskClock() {
-	clock, err := hourstable.NewTaskClock(hourstable.Drift{Extra: 201, Per: 1_000_000, Grain: 2}, 9_000)
+	clock, err := hourstable.NewTaskClock(hourstable.Drift{Extra: 1001, Per: 1_000_000, Grain: 2}, 9_000)
 	if err != nil {
 		fmt.Println(err)
 		return

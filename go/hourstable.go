@@ -87,8 +87,9 @@ func LibraryVersion() Version {
 func SliceKey(key []byte) uint64 { return uint64(C.hs_slice_key(first(key), C.size_t(len(key)))) }
 
 // BoottimeTicks returns CLOCK_BOOTTIME of Linux in ticks of a millisecond. It
-// counts while the machine is suspended, as the local clock of a task must. The
-// monotonic reading of time.Now does not.
+// counts while the machine is suspended, as the local clock of a task must; the
+// monotonic reading of time.Now does not. Programs that set the time slew it:
+// LocalTicks is not slewed.
 func BoottimeTicks() (uint64, error) {
 	var now C.struct_timespec
 	if code, err := C.clock_gettime(C.CLOCK_BOOTTIME, &now); code != 0 {

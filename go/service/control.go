@@ -3,12 +3,15 @@ package service
 import (
 	"bytes"
 	"context"
+	"encoding/json"
 	"errors"
 	"fmt"
 	"io"
+	"math"
 	"net/http"
 	"net/url"
 	"strconv"
+	"strings"
 	"sync"
 	"time"
 )
@@ -16,9 +19,12 @@ import (
 const (
 	ticketHeader  = "Hourstable-Ticket"
 	readingHeader = "Hourstable-Reading"
-	longestWait   = 30 * time.Second // of a GET that waits
+	requestHeader = "Hourstable-Request" // by which the log of a plane names the request
+	longestWait   = 30 * time.Second     // of a GET that waits
 	usualTimeout  = 5 * time.Second
-	mostBytes     = 1 << 21 // of an answer
+	mostBytes     = 1 << 21         // of an answer
+	mostReading   = uint64(1) << 62 // those of a table are below it
+	toldAgain     = time.Minute     // after which a failure of a plane is logged once more
 )
 
 // control is the control planes of a job, of which one answers at a time. A call
@@ -29,9 +35,57 @@ type control struct {
 	tickets     *tickets
 	local       func() (uint64, error)
 	timeout     time.Duration
+	logger      Logger
+	retries     *budget
 
-	mutex sync.Mutex
-	urls  []string
+	mutex    sync.Mutex
+	urls     []string          // the one that answered last comes first
+	troubles map[string]uint64 // of planes, by what they are
+	told     map[string]time.Time
+	silences map[string]time.Duration // of planes that send beats
+}
+
+func newControl(urls []string, job string) *control {
+	made := &control{
+		job: job, client: http.DefaultClient, timeout: usualTimeout, logger: silent{},
+		retries: newBudget(0), troubles: map[string]uint64{},
+		told: map[string]time.Time{}, silences: map[string]time.Duration{},
+	}
+	for _, one := range urls {
+		made.urls = append(made.urls, strings.TrimRight(one, "/"))
+	}
+	return made
+}
+
+// checkPlanes returns an error if there is no control plane or a URL is none. It does
+// not say which, as a URL may have a password.
+func checkPlanes(urls []string) error {
+	if len(urls) == 0 {
+		return errors.New("hourstable: there is no control plane")
+	}
+	for at, one := range urls {
+		if it, err := url.Parse(one); err != nil || it.Host == "" {
+			return fmt.Errorf("hourstable: item %d of Control is no URL", at)
+		}
+	}
+	return nil
+}
+
+// shown returns the URL of a plane without its password.
+func shown(plane string) string {
+	it, err := url.Parse(plane)
+	if err != nil {
+		return ""
+	}
+	return it.Redacted()
+}
+
+// request is a call of a job.
+type request struct {
+	method, path string
+	body         []byte
+	timeout      time.Duration      // of a GET that waits; that of the control planes if 0
+	read         func(answer) error // takes the answer: an error if no control plane answers so
 }
 
 // answer is what a control plane answered with 200 to 204, or 409.
@@ -42,128 +96,263 @@ type answer struct {
 	sent    uint64  // the local reading before the request was sent
 }
 
-// unreached is why a plane did not do a call, and when to ask again.
-type unreached struct {
-	why   error
-	after time.Duration
+// object returns the members of an answer.
+func (a answer) object(members any) error {
+	text := bytes.TrimSpace(a.body)
+	if len(text) == 0 || text[0] != '{' {
+		return fmt.Errorf("%.80q is no object", a.body)
+	}
+	return json.Unmarshal(text, members)
 }
 
-func (u *unreached) Error() string        { return ErrUnreachable.Error() + ": " + u.why.Error() }
-func (u *unreached) Unwrap() error        { return u.why }
-func (u *unreached) Is(target error) bool { return target == ErrUnreachable }
+// unreached is why planes did not do a call, and when to ask again.
+type unreached struct {
+	what      string // connection, unreadable, or a status
+	request   string // its id
+	why       error
+	after     time.Duration // what the plane asks for
+	isBusy    bool          // a plane is at a limit
+	isMissing bool          // no plane has the job
+}
 
-// call makes a call of the job. The error is that of the context, *Rejected, or
-// ErrUnreachable.
-func (c *control) call(ctx context.Context, method, path string, body []byte, timeout time.Duration) (answer, error) {
-	var failed error = &unreached{why: errors.New("there is no control plane")}
-	for tries := len(c.planes()); tries > 0; tries-- {
-		plane := c.planes()[0]
-		made, err := c.try(ctx, method, plane, path, body, timeout)
-		if !errors.Is(err, ErrUnreachable) {
+func (u *unreached) Error() string { return ErrUnreachable.Error() + ": " + u.why.Error() }
+func (u *unreached) Unwrap() error { return u.why }
+func (u *unreached) Is(target error) bool {
+	return target == ErrUnreachable || target == ErrNoJob && u.isMissing
+}
+
+// wait returns how long to wait before the call is made again; limit is the longest
+// wait, 0 if a plane may ask for a minute.
+func (u *unreached) wait(failures *backoff, limit time.Duration) time.Duration {
+	wait := failures.wait()
+	if u.after > wait {
+		wait = u.after
+	}
+	if limit > 0 && wait > limit {
+		wait = limit
+	}
+	if u.isBusy && wait < time.Second {
+		wait = time.Second
+	}
+	return wait
+}
+
+// call makes a call of the job. The error is that of the context, *unreached, which is
+// ErrUnreachable, or one of this process.
+func (c *control) call(ctx context.Context, asked request) (answer, error) {
+	failed := &unreached{what: "connection", why: errors.New("there is no control plane")}
+	isBusy, missing := false, 0
+	var tried []string
+	c.retries.add()
+	for plane := c.next(tried); plane != "" && (len(tried) == 0 || c.retries.take()); plane = c.next(tried) {
+		made, err := c.try(ctx, plane, asked)
+		if !errors.As(err, &failed) {
 			return made, err
 		}
-		failed = err
-		c.leave(plane)
+		c.leave(plane, failed)
+		isBusy = isBusy || failed.isBusy
+		if failed.what == "404" {
+			missing++
+		}
+		tried = append(tried, plane)
 	}
+	failed.isBusy, failed.isMissing = isBusy, missing > 0 && c.next(tried) == "" && missing == len(tried)
 	return answer{}, failed
 }
 
-func (c *control) planes() []string {
+// next returns the plane that is asked next of those that were not, "" for none.
+func (c *control) next(tried []string) string {
 	c.mutex.Lock()
 	defer c.mutex.Unlock()
-	return append([]string{}, c.urls...)
+next:
+	for _, plane := range c.urls {
+		for _, other := range tried {
+			if plane == other {
+				continue next
+			}
+		}
+		return plane
+	}
+	return ""
 }
 
-// leave puts a plane last that did not answer.
-func (c *control) leave(plane string) {
-	c.mutex.Lock()
-	defer c.mutex.Unlock()
-	if c.urls[0] == plane {
-		c.urls = append(c.urls[1:], plane)
+// leave puts a plane last that failed, counts it and logs it once a minute. A call that
+// failed beside this one does not bring it back.
+func (c *control) leave(plane string, why *unreached) {
+	if c.left(plane, why) {
+		c.logger.Warn("a control plane did not do a call",
+			"plane", shown(plane), "request", why.request, "why", why.why, "mend", mending(why.what))
 	}
 }
 
-func (c *control) try(
-	ctx context.Context, method, plane, path string, body []byte, timeout time.Duration,
-) (answer, error) {
+// left returns whether the failure is to be logged.
+func (c *control) left(plane string, why *unreached) bool {
+	c.mutex.Lock()
+	defer c.mutex.Unlock()
+	c.troubles[why.what]++
+	if len(c.urls) > 0 && c.urls[0] == plane {
+		c.urls = append(c.urls[1:len(c.urls):len(c.urls)], plane)
+	}
+	name, now := plane+" "+why.what, time.Now()
+	last, isTold := c.told[name]
+	if isTold && now.Sub(last) < toldAgain {
+		return false
+	}
+	c.told[name] = now
+	return true
+}
+
+// mending returns what an operator does about a failure.
+func mending(what string) string {
+	switch what {
+	case "connection":
+		return "see that the plane runs and is reached from here"
+	case "unreadable":
+		return "see that the URL is that of a plane, and what stands between"
+	case "401", "403":
+		return "give the secret of the plane, or let a proxy pass it"
+	case "404":
+		return "PUT the job, or correct the URL"
+	case "429":
+		return "see at which limit the plane is"
+	case "500", "502", "503", "504":
+		return "see the log of the plane and its store"
+	}
+	return "run a plane and a client that know each other"
+}
+
+// counts returns how often planes failed, by how.
+func (c *control) counts() map[string]uint64 {
+	c.mutex.Lock()
+	defer c.mutex.Unlock()
+	return copied(c.troubles)
+}
+
+func (c *control) try(ctx context.Context, plane string, asked request) (answer, error) {
+	timeout := asked.timeout
+	if timeout == 0 {
+		timeout = c.timeout
+	}
 	within, cancel := context.WithTimeout(ctx, timeout)
 	defer cancel()
-	made := answer{}
-	response, text, err := c.fetch(within, method, plane+"/jobs/"+url.PathEscape(c.job)+path, body, &made.sent)
-	if err == nil {
-		err = c.tickets.observe(response.Header.Get(ticketHeader))
+	address := plane + "/jobs/" + url.PathEscape(c.job) + asked.path
+	posed, err := http.NewRequestWithContext(within, asked.method, address, bytes.NewReader(asked.body))
+	if err != nil {
+		return answer{}, &unreached{what: "connection", why: err}
+	}
+	sent, err := c.prepare(posed)
+	if err != nil {
+		return answer{}, err
+	}
+	if asked.timeout > 0 {
+		posed.Header.Set(beatHeader, "1")
+	}
+	made, err := answer{}, error(nil)
+	if response, text, failed := c.fetch(plane, posed, cancel); failed != nil {
+		err = &unreached{what: "connection", why: failed}
+	} else {
+		made, err = c.taken(response, text, sent, asked)
 	}
 	if ctx.Err() != nil {
 		return answer{}, ctx.Err()
 	}
-	if err != nil {
-		return answer{}, &unreached{why: err}
+	var trouble *unreached
+	if errors.As(err, &trouble) {
+		trouble.request = posed.Header.Get(requestHeader)
 	}
-	made.status, made.body = response.StatusCode, text
-	if given := response.Header.Get(readingHeader); given != "" {
-		reading, err := strconv.ParseUint(given, 10, 64)
-		if err != nil {
-			return answer{}, &unreached{why: err}
-		}
-		made.reading = &reading
-	}
-	return made, meaning(response, text)
+	return made, err
 }
 
-func (c *control) fetch(
-	ctx context.Context, method, address string, body []byte, sent *uint64,
-) (*http.Response, []byte, error) {
-	request, err := http.NewRequestWithContext(ctx, method, address, bytes.NewReader(body))
-	if err != nil {
-		return nil, nil, err
-	}
+// prepare draws the ticket of a request, and returns the local reading. An error is
+// one of this process.
+func (c *control) prepare(posed *http.Request) (sent uint64, err error) {
 	if c.secret != "" {
-		request.Header.Set("Authorization", "Bearer "+c.secret)
+		posed.Header.Set("Authorization", "Bearer "+c.secret)
 	}
-	request.Header.Set("Content-Type", "application/json")
+	posed.Header.Set("Content-Type", "application/json")
 	ticket, err := c.tickets.draw()
 	if err != nil {
-		return nil, nil, err
+		return 0, err
 	}
-	request.Header.Set(ticketHeader, strconv.FormatUint(ticket, 10))
-	if *sent, err = c.local(); err != nil {
-		return nil, nil, err
+	posed.Header.Set(ticketHeader, strconv.FormatUint(ticket, 10))
+	posed.Header.Set(requestHeader, posed.Header.Get(ticketHeader))
+	return c.local()
+}
+
+// fetch returns a response of a plane and its body; cancel ends the request. A plane
+// that has sent beats begins to answer a GET that waits at once.
+func (c *control) fetch(plane string, posed *http.Request, cancel context.CancelFunc) (*http.Response, []byte, error) {
+	waits := posed.Header.Get(beatHeader) != ""
+	var head *time.Timer
+	if silence := c.silenceOf(plane); waits && silence > 0 {
+		head = time.AfterFunc(silence, cancel)
 	}
-	response, err := c.client.Do(request)
+	response, err := c.client.Do(posed)
+	if head != nil && !head.Stop() && err != nil {
+		return nil, nil, errSilent
+	}
 	if err != nil {
 		return nil, nil, err
 	}
 	defer response.Body.Close()
+	silence := silenceIn(response.Header)
+	if waits {
+		c.hear(plane, silence)
+	}
+	if silence > 0 && hasBeats(response.Header) {
+		text, err := beaten(response, silence, cancel)
+		return response, text, err
+	}
 	text, err := io.ReadAll(io.LimitReader(response.Body, mostBytes))
 	return response, text, err
 }
 
-// meaning returns what a status means: at a 404 the job may be created later.
-func meaning(response *http.Response, text []byte) error {
-	status := response.StatusCode
-	switch {
-	case status == 404 || status == 429 || status >= 500:
-		seconds, _ := strconv.ParseFloat(response.Header.Get("Retry-After"), 64)
-		after := time.Duration(seconds * float64(time.Second))
-		if after < 0 || after > time.Minute {
-			after = time.Minute
-		}
-		return &unreached{fmt.Errorf("%d %.200s", status, text), after}
-	case status != 409 && status >= 300:
-		return &Rejected{status, fmt.Sprintf("%.200s", text)}
-	}
-	return nil
+// silenceOf returns after how much silence a call of a plane ends that waits, 0 if
+// nothing is known of its beats.
+func (c *control) silenceOf(plane string) time.Duration {
+	c.mutex.Lock()
+	defer c.mutex.Unlock()
+	return c.silences[plane]
 }
 
-// waitOf returns how long to wait after an error of a call, and the error if no
-// other call helps.
-func waitOf(err error, failures *backoff) (time.Duration, error) {
-	var why *unreached
-	if !errors.As(err, &why) {
-		return 0, err
+func (c *control) hear(plane string, silence time.Duration) {
+	c.mutex.Lock()
+	defer c.mutex.Unlock()
+	c.silences[plane] = silence
+}
+
+// taken returns the answer of a response, or what is wrong with it.
+func (c *control) taken(response *http.Response, text []byte, sent uint64, asked request) (answer, error) {
+	if status := response.StatusCode; status >= 300 && status != http.StatusConflict {
+		return answer{}, refusal(response, text)
 	}
-	if wait := failures.wait(); wait > why.after {
-		return wait, nil
+	made := answer{status: response.StatusCode, body: text, sent: sent}
+	c.tickets.observe(response.Header.Get(ticketHeader))
+	var err error
+	if given := response.Header.Get(readingHeader); given != "" {
+		var reading uint64
+		if reading, err = strconv.ParseUint(given, 10, 64); reading >= mostReading {
+			err = fmt.Errorf("%d is no reading", reading)
+		}
+		made.reading = &reading
 	}
-	return why.after, nil
+	if err == nil && asked.read != nil {
+		err = asked.read(made)
+	}
+	if err != nil {
+		return answer{}, &unreached{what: "unreadable", why: fmt.Errorf("%d: %w", made.status, err)}
+	}
+	return made, nil
+}
+
+// refusal returns what a status says that is none of an answer.
+func refusal(response *http.Response, text []byte) error {
+	after := time.Duration(0)
+	if seconds, err := strconv.ParseFloat(response.Header.Get("Retry-After"), 64); err == nil && seconds > 0 {
+		after = time.Duration(math.Min(seconds, 60) * float64(time.Second))
+	}
+	return &unreached{
+		what: strconv.Itoa(response.StatusCode), why: fmt.Errorf("%d %.200s", response.StatusCode, text), after: after,
+		isBusy: response.StatusCode == http.StatusTooManyRequests,
+	}
 }

@@ -12,9 +12,9 @@ import (
 var kinds = []hourstable.Kind{hourstable.Guard, hourstable.Bridge}
 
 // leases are those of a task in one life: its slicelet and its clock, each call of
-// which is logged. Calls run one after the other, so that tickets, readings and
-// calls are in one order: a call draws its ticket, then reads the clock, asks the
-// library and writes its line.
+// which is logged. A call draws its ticket, then reads the clock, asks the library and
+// writes its line. Calls that change the slicelet run alone, so that tickets, readings
+// and calls are in one order; those that ask for a key run side by side.
 type leases struct {
 	job      string
 	task     uint64
@@ -23,9 +23,10 @@ type leases struct {
 	clock    *hourstable.TaskClock
 	local    func() (uint64, error)
 	tickets  *tickets
-	log      *callLog
+	log      *callLog // nil for none
+	part     uint64   // of the log; 0 if it was stopped when the life began
 
-	mutex            sync.Mutex
+	mutex            sync.RWMutex
 	started, sampled bool
 	held             map[hourstable.Kind]hourstable.Grant
 }
@@ -37,11 +38,20 @@ func (l *leases) begin(last uint32) error {
 		return err
 	}
 	l.slicelet, l.held = slicelet, map[hourstable.Kind]hourstable.Grant{}
-	ticket, err := l.tickets.draw()
+	l.part = l.log.open()
+	line, err := l.line("open", fmt.Sprintf("opened %d", last), map[string]any{"task": l.task, "life": last})
 	if err != nil {
 		return err
 	}
-	return l.log.tell(ticket, "open", fmt.Sprintf("opened %d", last), map[string]any{"task": l.task, "life": last})
+	l.log.append(l.part, line)
+	return nil
+}
+
+// close destroys the slicelet. Nothing is released.
+func (l *leases) close() {
+	l.mutex.Lock()
+	defer l.mutex.Unlock()
+	l.slicelet.Close()
 }
 
 // read returns the task's reading now. ErrClockBehind.
@@ -56,9 +66,6 @@ func (l *leases) read() (uint64, error) {
 
 // sample takes an answer of the table to a request, and logs it.
 func (l *leases) sample(made answer) error {
-	if made.reading == nil {
-		return nil
-	}
 	l.mutex.Lock()
 	defer l.mutex.Unlock()
 	now, err := l.local()
@@ -69,46 +76,75 @@ func (l *leases) sample(made answer) error {
 		return err
 	}
 	l.sampled = true
-	ticket, err := l.tickets.draw()
+	members := map[string]any{"task": l.task, "sent": made.sent, "reading": *made.reading, "now": now}
+	line, err := l.line("sample", "sampled", members)
 	if err != nil {
 		return err
 	}
-	members := map[string]any{"task": l.task, "sent": made.sent, "reading": *made.reading, "now": now}
-	return l.log.tell(ticket, "sample", "sampled", members)
+	l.log.append(l.part, line)
+	return nil
 }
 
-// call makes a call of the slicelet at the reading of now, and logs it.
+// line returns the line of a call that reads no clock of the task.
+func (l *leases) line(do, reply string, members map[string]any) ([]byte, error) {
+	if l.log == nil {
+		return nil, nil
+	}
+	ticket, err := l.tickets.draw()
+	if err != nil {
+		return nil, err
+	}
+	return lineOf(ticket, do, reply, members)
+}
+
+func lineOf(ticket uint64, do, reply string, members map[string]any) ([]byte, error) {
+	members["ticket"], members["do"], members["reply"] = ticket, do, reply
+	return json.Marshal(members)
+}
+
+// call makes a call that changes the slicelet at the reading of now, and logs it.
 func (l *leases) call(do string, members map[string]any, ask func(at uint64) (string, error)) error {
 	l.mutex.Lock()
 	defer l.mutex.Unlock()
-	return l.ask(do, members, ask)
+	line, err := l.ask(do, members, ask)
+	if line != nil {
+		l.log.append(l.part, line)
+	}
+	return err
 }
 
-func (l *leases) ask(do string, members map[string]any, ask func(at uint64) (string, error)) error {
-	ticket, err := l.tickets.draw()
-	if err != nil {
-		return err
+// ask makes a call of the slicelet at the reading of now. It returns its line too, if
+// there are members and a log, and the machine was asked.
+func (l *leases) ask(
+	do string, members map[string]any, ask func(at uint64) (string, error),
+) (line []byte, err error) {
+	var ticket uint64
+	isLogged := members != nil && l.log != nil
+	if isLogged {
+		if ticket, err = l.tickets.draw(); err != nil {
+			return nil, err
+		}
 	}
 	at, err := l.read()
 	if err != nil {
-		return err
+		return nil, err
 	}
-	members["task"], members["at"] = l.task, at
 	reply, err := ask(at)
 	var refused *hourstable.Refused
-	if errors.As(err, &refused) {
-		if refused.Code < 0 { // the machine was not asked
-			return err
-		}
-		if failed := l.log.tell(ticket, do, toldRefusal(do, refused), members); failed != nil {
-			return failed
-		}
-		return err
+	if errors.As(err, &refused) && refused.Code > 0 {
+		reply = toldRefusal(do, refused)
+	} else if err != nil {
+		return nil, err
 	}
-	if err != nil {
-		return err
+	if !isLogged {
+		return nil, err
 	}
-	return l.log.tell(ticket, do, reply, members)
+	members["task"], members["at"] = l.task, at
+	line, failed := lineOf(ticket, do, reply, members)
+	if failed != nil {
+		return nil, failed
+	}
+	return line, err
 }
 
 func (l *leases) start() error {
@@ -157,48 +193,75 @@ func (l *leases) release(kind hourstable.Kind) (note []byte, err error) {
 	return note, err
 }
 
-// enter asks whether the task may serve a key, and takes a handle on it.
-func (l *leases) enter(key string, sliceKey uint64) (served hourstable.Served, handle hourstable.Handle, err error) {
-	l.mutex.Lock()
-	defer l.mutex.Unlock()
-	err = l.ask("serve", map[string]any{"key": key}, func(at uint64) (string, error) {
-		made, err := l.slicelet.ServeAt(sliceKey, at)
-		served = made
-		return fmt.Sprintf("served %s %d", made.Kind, made.Generation), err
-	})
-	if err != nil {
-		return served, handle, err
-	}
-	err = l.ask("hold", map[string]any{"key": key}, func(at uint64) (string, error) {
-		made, err := l.slicelet.HoldAt(sliceKey, at)
-		handle = made
-		return fmt.Sprintf("handle life %d position %d", made.Life, made.Position), err
-	})
-	return served, handle, err
+// enter asks whether the task may serve the slice key of a lease, and takes a handle
+// on it.
+func (l *leases) enter(lease *Lease) error {
+	lines, err := l.questions(lease)
+	l.log.append(l.part, lines...)
+	return err
 }
 
-// check returns nil if the task has held the key of a handle without a break.
-func (l *leases) check(handle hourstable.Handle) error {
+// questions asks what enter does, and returns the lines of both calls.
+func (l *leases) questions(lease *Lease) (lines [][]byte, err error) {
+	l.mutex.RLock()
+	defer l.mutex.RUnlock()
+	line, err := l.ask("serve", lease.members("slice_key", lease.sliceKey), func(at uint64) (string, error) {
+		served, err := l.slicelet.ServeAt(lease.sliceKey, at)
+		lease.Kind, lease.Generation = served.Kind, served.Generation
+		return fmt.Sprintf("served %s %d", served.Kind, served.Generation), err
+	})
+	if line != nil {
+		lines = append(lines, line)
+	}
+	if err != nil {
+		return lines, err
+	}
+	line, err = l.ask("hold", lease.members("slice_key", lease.sliceKey), func(at uint64) (string, error) {
+		handle, err := l.slicelet.HoldAt(lease.sliceKey, at)
+		lease.handle = handle
+		return fmt.Sprintf("handle life %d position %d", handle.Life, handle.Position), err
+	})
+	if line != nil {
+		lines = append(lines, line)
+	}
+	return lines, err
+}
+
+// check returns nil if the task has held the key of a lease without a break.
+func (l *leases) check(lease *Lease) error {
+	handle := lease.handle
 	value := map[string]any{
 		"task": handle.Task, "slice_key": handle.SliceKey, "position": handle.Position, "life": handle.Life,
 	}
-	return l.call("check", map[string]any{"handle": value}, func(at uint64) (string, error) {
+	l.mutex.RLock()
+	line, err := l.ask("check", lease.members("handle", value), func(at uint64) (string, error) {
 		return "continuous", l.slicelet.Check(handle, at)
 	})
+	l.mutex.RUnlock()
+	if line != nil {
+		l.log.append(l.part, line)
+	}
+	return err
 }
 
 // lease returns the lease of a kind that is held.
 func (l *leases) lease(kind hourstable.Kind) (hourstable.Grant, bool) {
-	l.mutex.Lock()
-	defer l.mutex.Unlock()
+	l.mutex.RLock()
+	defer l.mutex.RUnlock()
 	grant, isHeld := l.held[kind]
 	return grant, isHeld
 }
 
+func (l *leases) hasLease() bool {
+	l.mutex.RLock()
+	defer l.mutex.RUnlock()
+	return len(l.held) > 0
+}
+
 // live returns the slice keys of the leases that have not ended at a reading.
 func (l *leases) live(at uint64) []hourstable.Range {
-	l.mutex.Lock()
-	defer l.mutex.Unlock()
+	l.mutex.RLock()
+	defer l.mutex.RUnlock()
 	var made []hourstable.Range
 	for _, grant := range l.held {
 		if at < grant.Ends {
@@ -211,8 +274,8 @@ func (l *leases) live(at uint64) []hourstable.Range {
 // lostWithout returns the slice keys of the lease of a kind that no other held lease
 // has; of the last leases of a life, all of its keys.
 func (l *leases) lostWithout(kind hourstable.Kind, isLast bool) []hourstable.Range {
-	l.mutex.Lock()
-	defer l.mutex.Unlock()
+	l.mutex.RLock()
+	defer l.mutex.RUnlock()
 	lost := l.held[kind].Ranges
 	for other, grant := range l.held {
 		if other != kind && !isLast {
@@ -223,8 +286,8 @@ func (l *leases) lostWithout(kind hourstable.Kind, isLast bool) []hourstable.Ran
 }
 
 func (l *leases) state() (started, sampled bool) {
-	l.mutex.Lock()
-	defer l.mutex.Unlock()
+	l.mutex.RLock()
+	defer l.mutex.RUnlock()
 	return l.started, l.sampled
 }
 

@@ -3,9 +3,11 @@ package service
 import (
 	"context"
 	"errors"
+	"fmt"
 	"net/http"
 	"net/http/httptest"
 	"os"
+	"os/exec"
 	"path/filepath"
 	"reflect"
 	"strings"
@@ -68,8 +70,8 @@ func TestTicketsOutlastAProcess(t *testing.T) {
 	if first>>8 != 1 || second>>8 != 2 || second&255 != 64 {
 		t.Errorf("drawn %d %d", first, second)
 	}
-	if err := one.observe("66816"); err != nil || drawn(t, one)>>8 != 262 { // 66816 is 261 * 256
-		t.Errorf("observed 261: %v", err)
+	if one.observe("66816"); drawn(t, one)>>8 != 262 { // 66816 is 261 * 256
+		t.Error("261 is not observed")
 	}
 	one.close()
 	again, err := openTickets(64, path)
@@ -91,56 +93,6 @@ func TestTicketsOutlastAProcess(t *testing.T) {
 	}
 }
 
-func TestTicketsThatAreNotObserved(t *testing.T) {
-	from, _ := openTickets(64, "")
-	for _, text := range []string{"-1", "x", "18446744073709551616", "18446744073709551615"} {
-		if from.observe(text) == nil {
-			t.Errorf("observed %s", text)
-		}
-	}
-	if drawn(t, from)>>8 != 1 {
-		t.Error("what was not observed counts")
-	}
-}
-
-func TestLogs(t *testing.T) {
-	folder := t.TempDir()
-	path := filepath.Join(folder, "task-1."+utcDay()+".jsonl")
-	tell := func(ticket uint64) {
-		t.Helper()
-		log, err := openLog(folder, "task-1", []byte(`{"job":{}}`))
-		if err != nil {
-			t.Fatal(err)
-		}
-		defer log.close()
-		if err := log.tell(ticket, "start", "started 1", map[string]any{"at": 7}); err != nil {
-			t.Fatal(err)
-		}
-	}
-	holds := func(wanted string) {
-		t.Helper()
-		if text, _ := os.ReadFile(path); string(text) != wanted {
-			t.Errorf("%q, not %q", text, wanted)
-		}
-	}
-	line := func(ticket string) string {
-		return `{"at":7,"do":"start","reply":"started 1","ticket":` + ticket + "}\n"
-	}
-	tell(1)
-	holds("{\"job\":{}}\n" + line("1"))
-	text, _ := os.ReadFile(path)
-	os.WriteFile(path, append(text, `{"at":8,"do":"st`...), 0o644) // torn
-	tell(2)
-	holds("{\"job\":{}}\n" + line("1") + line("2"))
-	text, _ = os.ReadFile(path)
-	os.WriteFile(path, text[:len(text)-1], 0o644) // its end is torn
-	tell(3)
-	holds("{\"job\":{}}\n" + line("1") + line("2") + line("3"))
-	if _, err := openLog(folder, "task-1", []byte(`{"job":1}`)); err == nil {
-		t.Error("the log of another job is opened")
-	}
-}
-
 func plane(t *testing.T, handler http.HandlerFunc) string {
 	t.Helper()
 	server := httptest.NewServer(handler)
@@ -150,11 +102,11 @@ func plane(t *testing.T, handler http.HandlerFunc) string {
 
 func controlOf(t *testing.T, urls ...string) *control {
 	t.Helper()
-	from, _ := openTickets(64, "")
-	return &control{
-		job: "shop", secret: "0123456789abcdef", client: http.DefaultClient, tickets: from, urls: urls,
-		local: func() (uint64, error) { return 7, nil }, timeout: time.Second,
-	}
+	made := newControl(urls, "shop")
+	made.secret, made.timeout = "0123456789abcdef", time.Second
+	made.tickets, _ = openTickets(64, "")
+	made.local = func() (uint64, error) { return 7, nil }
+	return made
 }
 
 func TestAnotherPlaneIsAsked(t *testing.T) {
@@ -174,7 +126,7 @@ func TestAnotherPlaneIsAsked(t *testing.T) {
 	})
 	asks := controlOf(t, down, up)
 	for range [2]int{} {
-		made, err := asks.call(context.Background(), "POST", "/grant", nil, time.Second)
+		made, err := asks.call(context.Background(), request{method: "POST", path: "/grant"})
 		if err != nil || made.reading == nil || *made.reading != 12 || made.sent != 7 {
 			t.Error(made, err)
 		}
@@ -185,27 +137,10 @@ func TestAnotherPlaneIsAsked(t *testing.T) {
 	if drawn(t, asks.tickets)>>8 < 262 {
 		t.Error("the ticket of the answer was not observed")
 	}
-	_, err := controlOf(t, down).call(context.Background(), "POST", "/grant", nil, time.Second)
-	wait, failed := waitOf(err, &backoff{least: time.Millisecond, most: time.Millisecond})
-	if !errors.Is(err, ErrUnreachable) || failed != nil || wait != 3*time.Second {
-		t.Error(err, wait, failed)
-	}
-}
-
-func TestWhatAStatusMeans(t *testing.T) {
-	status := 0
-	asks := controlOf(t, plane(t, func(out http.ResponseWriter, _ *http.Request) { out.WriteHeader(status) }))
-	for status = range map[int]bool{404: true, 429: true, 500: true, 503: true} {
-		if _, err := asks.call(context.Background(), "GET", "", nil, time.Second); !errors.Is(err, ErrUnreachable) {
-			t.Error(status, err)
-		}
-	}
-	for _, status = range []int{400, 401, 413} {
-		var rejected *Rejected
-		_, err := asks.call(context.Background(), "GET", "", nil, time.Second)
-		if !errors.As(err, &rejected) || rejected.Status != status {
-			t.Error(status, err)
-		}
+	_, err := controlOf(t, down).call(context.Background(), request{method: "POST", path: "/grant"})
+	var trouble *unreached
+	if !errors.As(err, &trouble) || !errors.Is(err, ErrUnreachable) || trouble.after != 3*time.Second {
+		t.Error(err)
 	}
 }
 
@@ -219,12 +154,34 @@ func TestContextsOfCalls(t *testing.T) {
 		}
 	}))
 	defer close(ended)
-	if _, err := asks.call(context.Background(), "GET", "", nil, 20*time.Millisecond); !errors.Is(err, ErrUnreachable) {
+	_, err := asks.call(context.Background(), request{method: "GET", timeout: 20 * time.Millisecond})
+	if !errors.Is(err, ErrUnreachable) {
 		t.Error("at its limit:", err)
 	}
 	ctx, cancel := context.WithCancel(context.Background())
 	time.AfterFunc(20*time.Millisecond, cancel)
-	if _, err := asks.call(ctx, "GET", "", nil, time.Minute); !errors.Is(err, context.Canceled) {
+	if _, err := asks.call(ctx, request{method: "GET", timeout: time.Minute}); !errors.Is(err, context.Canceled) {
 		t.Error("cancelled:", err)
+	}
+}
+
+// Processes that fail at once do not try again at once: each has chance of its own.
+func TestProcessesDrawOtherNumbers(t *testing.T) {
+	if os.Getenv("HOURSTABLE_DRAWS") != "" {
+		fmt.Println("drawn", (&backoff{least: time.Hour, most: time.Hour}).wait())
+		return
+	}
+	drawn := map[string]bool{}
+	for range [3]int{} {
+		process := exec.Command(os.Args[0], "-test.run=^TestProcessesDrawOtherNumbers$")
+		process.Env = append(os.Environ(), "HOURSTABLE_DRAWS=1")
+		said, err := process.Output()
+		if err != nil || !strings.HasPrefix(string(said), "drawn ") {
+			t.Fatalf("%s %v", said, err)
+		}
+		drawn[strings.SplitN(string(said), "\n", 2)[0]] = true
+	}
+	if len(drawn) != 3 {
+		t.Error(drawn)
 	}
 }

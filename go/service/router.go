@@ -5,7 +5,6 @@ import (
 	"errors"
 	"fmt"
 	"math"
-	"math/rand"
 	"net/http"
 	"sync"
 	"time"
@@ -13,7 +12,10 @@ import (
 	"hourstable"
 )
 
-const firstRouter = 144 // the number of the process whose tickets a router draws: no log has them
+const (
+	firstRouter    = 144 // the number of the process whose tickets a router draws: no log has them
+	retriesASecond = 10  // of Send, beside a tenth of its calls
+)
 
 // RouterConfig says of which job a router finds owners.
 type RouterConfig struct {
@@ -28,12 +30,15 @@ type RouterConfig struct {
 // of a key. It may be wrong: a task that does not own the key says so. It knows
 // nothing until Run. Any goroutines may use it at the same time.
 type Router struct {
-	config  RouterConfig
-	control *control
-	clerk   *hourstable.Clerk
+	config     RouterConfig
+	control    *control
+	clerk      *hourstable.Clerk
+	supervisor *supervisor
+	retries    *budget // of Send
 
 	mutex      sync.Mutex
 	generation uint64
+	isMissing  bool      // no control plane has the job
 	heard      time.Time // when a control plane last answered
 	underway   map[uint64]int
 	changed    chan struct{} // closed at the next assignment
@@ -41,6 +46,9 @@ type Router struct {
 
 // NewRouter returns a router, which knows no assignment.
 func NewRouter(config RouterConfig) (*Router, error) {
+	if err := checkPlanes(config.Control); err != nil {
+		return nil, err
+	}
 	clerk, err := hourstable.NewClerk(config.Job)
 	if err != nil {
 		return nil, err
@@ -48,23 +56,28 @@ func NewRouter(config RouterConfig) (*Router, error) {
 	if config.Client == nil {
 		config.Client = http.DefaultClient
 	}
-	config.Logger = loggerOr(config.Logger)
+	config.Logger = loggerOf(config.Logger, "job", config.Job)
 	drawn, err := openTickets(firstRouter, "")
 	if err != nil {
 		return nil, err
 	}
-	return &Router{
+	made := &Router{
 		config: config, clerk: clerk, underway: map[uint64]int{}, changed: make(chan struct{}),
-		control: &control{
-			job: config.Job, secret: config.Secret, client: config.Client, tickets: drawn,
-			local: hourstable.BoottimeTicks, timeout: usualTimeout, urls: trimmed(config.Control),
-		},
-	}, nil
+		control: newControl(config.Control, config.Job), supervisor: newSupervisor(config.Logger),
+		retries: newBudget(retriesASecond),
+	}
+	made.control.secret, made.control.client, made.control.logger = config.Secret, config.Client, config.Logger
+	made.control.tickets, made.control.local = drawn, hourstable.LocalTicks
+	return made, nil
 }
 
-// Run follows the assignments of the job until the context ends, and returns nil
-// then; before that a *Rejected.
+// Run follows the assignments of the job until the context ends, and returns nil.
 func (r *Router) Run(ctx context.Context) error {
+	failures := &backoff{least: 50 * time.Millisecond, most: 2 * time.Second}
+	return ifNotEnded(ctx, r.supervisor.loop(ctx, "assignments", failures, r.follow, nil))
+}
+
+func (r *Router) follow(ctx context.Context) error {
 	failures := &backoff{least: 50 * time.Millisecond, most: 2 * time.Second}
 	for {
 		err := r.learn(ctx)
@@ -72,32 +85,42 @@ func (r *Router) Run(ctx context.Context) error {
 			failures.reset()
 			continue
 		}
-		wait, rejected := waitOf(err, failures)
-		if rejected != nil {
-			return ifNotEnded(ctx, rejected)
+		var trouble *unreached
+		if !errors.As(err, &trouble) {
+			return err
 		}
-		r.config.Logger.Info("no control plane answered a router", "job", r.config.Job, "why", err)
-		if err := pause(ctx, wait, nil); err != nil {
-			return ifNotEnded(ctx, err)
+		r.miss(trouble.isMissing)
+		if err := pause(ctx, trouble.wait(failures, 0), nil); err != nil {
+			return err
 		}
 	}
 }
 
+func (r *Router) miss(isMissing bool) {
+	r.mutex.Lock()
+	defer r.mutex.Unlock()
+	r.isMissing = isMissing
+}
+
 // learn learns the next assignment, as soon as there is one.
 func (r *Router) learn(ctx context.Context) error {
-	path := fmt.Sprintf("/assignment?after=%d", r.Generation())
-	made, err := r.control.call(ctx, http.MethodGet, path, nil, longestWait+usualTimeout)
+	made, err := r.control.call(ctx, request{
+		method: http.MethodGet, path: fmt.Sprintf("/assignment?after=%d", r.Generation()),
+		timeout: longestWait + usualTimeout, read: func(made answer) error {
+			if made.status == http.StatusNoContent {
+				return nil
+			}
+			return r.clerk.Learn(made.body) // a plane that stands by is behind
+		},
+	})
 	if err != nil {
 		return err
 	}
 	r.mutex.Lock()
 	defer r.mutex.Unlock()
-	r.heard = time.Now()
+	r.heard, r.isMissing = time.Now(), false
 	if made.status == http.StatusNoContent {
 		return nil
-	}
-	if err := r.clerk.Learn(made.body); err != nil {
-		return &unreached{why: err} // a plane that stands by is behind
 	}
 	found, err := r.clerk.LookAt(0)
 	if err != nil {
@@ -108,6 +131,9 @@ func (r *Router) learn(ctx context.Context) error {
 	r.changed = make(chan struct{})
 	return nil
 }
+
+// Troubles returns what the router counted of failures.
+func (r *Router) Troubles() Troubles { return troublesOf(r.control, r.supervisor) }
 
 // Generation returns the generation of the known assignment, 0 for none.
 func (r *Router) Generation() uint64 {
@@ -126,42 +152,76 @@ func (r *Router) Stale() time.Duration {
 	return time.Since(r.heard)
 }
 
-// Owners returns the owners of a key. ErrNoOwner.
+// Owners returns the owners of a key. ErrNoOwner, which is ErrNoJob too if no control
+// plane has the job.
 func (r *Router) Owners(key string) (hourstable.Owners, error) {
 	found, err := r.clerk.Look([]byte(key))
-	if errors.Is(err, hourstable.ErrUnknown) {
-		return found, fmt.Errorf("%w of %q", ErrNoOwner, key)
+	if !errors.Is(err, hourstable.ErrUnknown) {
+		return found, err
 	}
-	return found, err
+	r.mutex.Lock()
+	defer r.mutex.Unlock()
+	if r.isMissing {
+		return found, &noOwner{key, ErrNoJob}
+	}
+	return found, &noOwner{key, err}
 }
+
+// noOwner is ErrNoOwner, and why.
+type noOwner struct {
+	key string
+	why error
+}
+
+func (n *noOwner) Error() string        { return fmt.Sprintf("%v of %q: %v", ErrNoOwner, n.key, n.why) }
+func (n *noOwner) Unwrap() error        { return n.why }
+func (n *noOwner) Is(target error) bool { return target == ErrNoOwner }
 
 // Send returns nil once an attempt at an owner of a key did. An attempt that returns
 // ErrAgain is made again, with waits that grow, at an owner as known then, until the
-// context ends: then the last error of an attempt is returned, or ErrNoOwner.
+// context ends: then the last error of an attempt is returned, or ErrNoOwner. Attempts
+// that are made again at one owner are at most a tenth of all calls, and ten a second.
 func (r *Router) Send(ctx context.Context, key string, attempt func(ctx context.Context, task uint64) error) error {
 	failures := &backoff{least: 10 * time.Millisecond, most: 500 * time.Millisecond}
+	tried := map[place]bool{}
+	var failed error
+	r.retries.add()
 	for {
 		r.mutex.Lock()
 		changed := r.changed
 		r.mutex.Unlock()
-		err := r.attempt(ctx, key, attempt)
-		if !errors.Is(err, ErrAgain) && !errors.Is(err, ErrNoOwner) {
-			return err
+		if isMade, err := r.attempt(ctx, key, tried, attempt); isMade {
+			if !errors.Is(err, ErrAgain) && !errors.Is(err, ErrNoOwner) {
+				return err
+			}
+			failed = err
 		}
 		if pause(ctx, failures.wait(), changed) != nil {
-			return err
+			return failed
 		}
 	}
 }
 
-func (r *Router) attempt(ctx context.Context, key string, attempt func(context.Context, uint64) error) error {
+// place is an owner of a key in a generation.
+type place struct{ generation, task uint64 }
+
+// attempt makes an attempt at an owner, and says whether it did: not at one that was
+// tried if no retry is left.
+func (r *Router) attempt(
+	ctx context.Context, key string, tried map[place]bool, attempt func(context.Context, uint64) error,
+) (isMade bool, err error) {
 	found, err := r.Owners(key)
 	if err != nil {
-		return err
+		return true, err
 	}
 	task := r.pick(found.Tasks)
 	defer r.done(task)
-	return attempt(ctx, task)
+	it := place{found.Generation, task}
+	if tried[it] && !r.retries.take() {
+		return false, nil
+	}
+	tried[it] = true
+	return true, attempt(ctx, task)
 }
 
 // pick picks the owner to which the fewest attempts are underway, of several at
@@ -178,7 +238,7 @@ func (r *Router) pick(tasks []uint64) uint64 {
 			least = append(least, task)
 		}
 	}
-	picked := least[rand.Intn(len(least))]
+	picked := least[int(random()*float64(len(least)))]
 	r.underway[picked]++
 	return picked
 }

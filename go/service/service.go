@@ -14,7 +14,7 @@ import (
 	"context"
 	"errors"
 	"fmt"
-	"math/rand"
+	"hash/maphash"
 	"time"
 )
 
@@ -37,12 +37,15 @@ var (
 	ErrUnreachable = errors.New("hourstable: no control plane did the call")
 	// ErrNoOwner says that no owner of a key is known.
 	ErrNoOwner = errors.New("hourstable: no owner is known")
+	// ErrNoJob says that no control plane has the job.
+	ErrNoJob = errors.New("hourstable: there is no such job: PUT /jobs/NAME with its policy creates it")
 	// ErrAgain is returned by an attempt of Router.Send that may be made again, as one
 	// that was denied.
 	ErrAgain = errors.New("hourstable: again")
 )
 
-// Rejected is a call that a control plane will not do, as one with a wrong secret.
+// Rejected is a call that a control plane will not do, however often it is made, as one
+// that creates a job which has another policy.
 type Rejected struct {
 	Status int
 	Text   string
@@ -79,11 +82,12 @@ func (silent) Info(string, ...any)  {}
 func (silent) Warn(string, ...any)  {}
 func (silent) Error(string, ...any) {}
 
-func loggerOr(given Logger) Logger {
+// loggerOf returns a logger whose lines have these attributes.
+func loggerOf(given Logger, whose ...any) Logger {
 	if given == nil {
 		return silent{}
 	}
-	return given
+	return guardedLogger{given, whose}
 }
 
 // backoff says how long to wait after failures: longer at each, and at random, so
@@ -100,8 +104,12 @@ func (b *backoff) wait() time.Duration {
 	if b.next = 2 * limit; b.next > b.most {
 		b.next = b.most
 	}
-	return time.Duration(float64(limit) * (0.5 + 0.5*rand.Float64()))
+	return time.Duration(float64(limit) * (0.5 + 0.5*random()))
 }
+
+// random returns a number from 0 up to 1. That of math/rand is the same in each process
+// that is built with Go 1.19, so that all tasks would try again at once.
+func random() float64 { return float64(new(maphash.Hash).Sum64()>>11) / (1 << 53) }
 
 // pause waits, but not longer than the context lasts or until woken has something.
 func pause(ctx context.Context, wait time.Duration, woken <-chan struct{}) error {

@@ -127,7 +127,7 @@ func TestTasksInGoAndInPython(t *testing.T) {
 	for number := uint64(1); number <= 2; number++ {
 		task, stop := running(t, service.TaskConfig{
 			Control: []string{address}, Job: job, Task: number, Logs: logs, Policy: policy(2000),
-			Report: 300 * time.Millisecond,
+			Report: 300 * time.Millisecond, Sample: float64(number) / 2,
 		})
 		tasks[number] = task
 		stops = append(stops, stop)

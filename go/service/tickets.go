@@ -3,12 +3,14 @@ package service
 import (
 	"bytes"
 	"encoding/binary"
+	"errors"
 	"fmt"
+	"io"
 	"os"
+	"path/filepath"
 	"strconv"
 	"sync"
 	"syscall"
-	"time"
 )
 
 const (
@@ -16,7 +18,7 @@ const (
 	counterBits = 8
 	places      = uint64(1) << 56
 	aheadPlaces = uint64(10_000) << counterBits // by which the file is ahead of the places drawn
-	day         = 24 * time.Hour
+	mostSeen    = uint64(1) << 47               // milliseconds of a ticket that is observed, in the year 6429
 )
 
 // The file of tickets is that of the package in Python.
@@ -39,6 +41,8 @@ type tickets struct {
 	last    uint64
 	file    *os.File
 	memory  []byte
+	passed  uint64 // tickets that were not observed
+	unkept  uint64 // times that the disk did not take the places
 }
 
 // openTickets opens the file of a process, which is locked: no other process draws
@@ -48,7 +52,10 @@ func openTickets(process uint8, path string) (*tickets, error) {
 	if path == "" {
 		return made, nil
 	}
-	file, err := os.OpenFile(path, os.O_RDWR|os.O_CREATE, 0o644)
+	if err := os.MkdirAll(filepath.Dir(path), 0o700); err != nil {
+		return nil, err
+	}
+	file, err := os.OpenFile(path, os.O_RDWR|os.O_CREATE, 0o600)
 	if err != nil {
 		return nil, err
 	}
@@ -57,6 +64,39 @@ func openTickets(process uint8, path string) (*tickets, error) {
 		return nil, fmt.Errorf("%s: %w", path, err)
 	}
 	return made, nil
+}
+
+// moveTickets moves a file of tickets, unless there is one at its new place. An error if
+// a process has it.
+func moveTickets(from, to string) error {
+	file, err := os.Open(from)
+	if errors.Is(err, os.ErrNotExist) || errors.Is(err, syscall.ENOTDIR) {
+		return nil
+	}
+	if err != nil {
+		return err
+	}
+	defer file.Close()
+	if _, err := os.Stat(to); !errors.Is(err, os.ErrNotExist) {
+		return err
+	}
+	if err := syscall.Flock(int(file.Fd()), syscall.LOCK_EX|syscall.LOCK_NB); err != nil {
+		return fmt.Errorf("%s: another process draws from it: %w", from, err)
+	}
+	if err := os.MkdirAll(filepath.Dir(to), 0o700); err != nil {
+		return err
+	}
+	text, err := io.ReadAll(io.LimitReader(file, fileLength+1))
+	if err != nil {
+		return err
+	}
+	if err := os.WriteFile(to+".new", text, 0o600); err != nil { // it may be on another disk
+		return err
+	}
+	if err := os.Rename(to+".new", to); err != nil {
+		return err
+	}
+	return os.Remove(from)
 }
 
 func (t *tickets) open(file *os.File) error {
@@ -110,7 +150,9 @@ func (t *tickets) number(at int) uint64 { return binary.LittleEndian.Uint64(t.me
 
 func (t *tickets) put(at int, number uint64) { binary.LittleEndian.PutUint64(t.memory[at:], number) }
 
-// draw returns a ticket above all that were drawn or observed before.
+// draw returns a ticket above all that were drawn or observed before. A disk that
+// does not take the places is counted, and stops nobody: a crash of the machine may
+// then lose the order of the last tickets.
 func (t *tickets) draw() (uint64, error) {
 	t.mutex.Lock()
 	defer t.mutex.Unlock()
@@ -121,8 +163,8 @@ func (t *tickets) draw() (uint64, error) {
 	if t.memory != nil {
 		if place >= t.number(ceilingAt) {
 			t.put(ceilingAt, place+aheadPlaces+1)
-			if err := t.file.Sync(); err != nil {
-				return 0, err
+			if t.file.Sync() != nil {
+				t.unkept++
 			}
 		}
 		t.put(lastAt, place)
@@ -131,24 +173,29 @@ func (t *tickets) draw() (uint64, error) {
 	return place<<processBits | t.process, nil
 }
 
-// observe takes the ticket in the header of an answer, before its effects draw one.
-func (t *tickets) observe(text string) error {
+// observe takes the ticket in the header of an answer, before its effects draw one. One
+// that is no number, or that no clock shows, is not observed, and counted: it would use
+// up the tickets of all. The real time of this host does not matter, as it may be wrong.
+func (t *tickets) observe(text string) {
 	if text == "" {
-		return nil
+		return
 	}
 	ticket, err := strconv.ParseUint(text, 10, 64)
-	if err != nil {
-		return fmt.Errorf("%.40q is no ticket", text)
-	}
-	if ticket>>(processBits+counterBits) > uint64(time.Now().Add(day).UnixMilli()) {
-		return fmt.Errorf("ticket %d is more than a day ahead", ticket)
-	}
 	t.mutex.Lock()
 	defer t.mutex.Unlock()
-	if place := ticket >> processBits; place > t.last {
+	if err != nil || ticket>>(processBits+counterBits) >= mostSeen {
+		t.passed++
+	} else if place := ticket >> processBits; place > t.last {
 		t.last = place
 	}
-	return nil
+}
+
+// counts returns how many tickets were not observed, and how often the disk did not
+// take the places.
+func (t *tickets) counts() (passed, unkept uint64) {
+	t.mutex.Lock()
+	defer t.mutex.Unlock()
+	return t.passed, t.unkept
 }
 
 func (t *tickets) close() {

@@ -135,8 +135,7 @@ MUTANTS = (
         "                await self._look_at(name)",
     ),), seeds="24"),
     Mutant("policy-from-anything", "replies.py", (
-        ("    answer.value()
-    return answer.status != 409", "    return answer.status != 409"),
+        ("    answer.value()\n    return answer.status != 409", "    return answer.status != 409"),
     ), why_not="an odd answer also ends the tasks, which then create the job"),
 )
 

@@ -1,0 +1,215 @@
+package service
+
+import (
+	"context"
+	"encoding/json"
+	"errors"
+	"fmt"
+	"net/http"
+	"time"
+
+	"hourstable"
+)
+
+// act does what the slicelet says, one thing after the other.
+func (t *Task) act(ctx context.Context) error {
+	failures := t.failures()
+	for {
+		wait, err := t.step(ctx)
+		woken := t.woken
+		var trouble *unreached
+		switch {
+		case err == nil:
+			failures.reset()
+		case errors.As(err, &trouble):
+			t.reached(err)
+			if wait = t.waitOf(trouble, failures); trouble.isBusy {
+				woken = nil
+			}
+		case errors.Is(err, ErrClockBehind):
+			t.noteBehind(err)
+			wait = failures.wait()
+		default:
+			return err
+		}
+		t.notice()
+		if err := ctx.Err(); err != nil {
+			return err
+		}
+		if wait > 0 {
+			if err := pause(ctx, wait, woken); err != nil {
+				return err
+			}
+		}
+	}
+}
+
+// step does one thing, and returns for how long nothing is to be done.
+func (t *Task) step(ctx context.Context) (time.Duration, error) {
+	held := t.life()
+	if held == nil {
+		return 0, t.beginLife(ctx)
+	}
+	left, err := held.slicelet.CallsLeft()
+	if err != nil {
+		return 0, err
+	}
+	if left < lastCalls || t.log.goesOn(held.part) {
+		return 0, t.endLife(ctx)
+	}
+	if _, sampled := held.state(); !sampled {
+		return t.ask(ctx, held)
+	}
+	at, err := held.read()
+	if errors.Is(err, ErrClockBehind) {
+		t.noteBehind(err)
+		return t.ask(ctx, held)
+	}
+	if err != nil {
+		return 0, err
+	}
+	t.mutex.Lock()
+	t.isBehind = false
+	phase := t.phase
+	t.mutex.Unlock()
+	if phase == nil {
+		return t.rest(ctx, held, at, hourstable.Guard)
+	}
+	return t.next(ctx, held, *phase, at)
+}
+
+// next does what the slicelet says, in a phase of the table.
+func (t *Task) next(
+	ctx context.Context, held *leases, phase hourstable.Phase, at uint64,
+) (time.Duration, error) {
+	action, err := held.slicelet.Next(phase, at)
+	if err != nil {
+		return 0, err
+	}
+	switch action {
+	case hourstable.StartLife:
+		return 0, held.start()
+	case hourstable.AskGuard, hourstable.AskBridge:
+		return t.ask(ctx, held)
+	case hourstable.GiveUpGuard:
+		return 0, t.giveUp(ctx, held, hourstable.Guard, false)
+	case hourstable.GiveUpBridge:
+		return 0, t.giveUp(ctx, held, hourstable.Bridge, false)
+	}
+	if phase.Proposed != 0 {
+		return t.rest(ctx, held, at, hourstable.Bridge)
+	}
+	return t.rest(ctx, held, at, hourstable.Guard)
+}
+
+// ask asks the table for a grant, and hears it.
+func (t *Task) ask(ctx context.Context, held *leases) (time.Duration, error) {
+	made, err := t.control.call(ctx, request{
+		method: http.MethodPost, path: "/grant", body: []byte(fmt.Sprintf(`{"task":%d,"life":%d}`, t.config.Task, held.life)),
+		read: func(made answer) error { return t.isGrant(made, held) },
+	})
+	if err != nil {
+		return 0, err
+	}
+	t.reached(nil)
+	if made.reading != nil { // an answer that repeats an earlier one has none
+		if err := held.sample(made); err != nil {
+			return 0, err
+		}
+	}
+	if started, sampled := held.state(); sampled && !started {
+		if err := held.start(); err != nil {
+			return 0, err
+		}
+	}
+	if made.status == http.StatusConflict {
+		return t.refused(made.body), nil
+	}
+	if err := t.stopAtEvidence(held, made.body); err != nil {
+		return 0, err
+	}
+	grant, err := held.hear(made.body)
+	var refused *hourstable.Refused
+	if errors.As(err, &refused) && refused.Code > 0 {
+		t.config.Logger.Info("a grant was not heard", "why", refused.Reply())
+		return 100 * time.Millisecond, nil
+	}
+	if err != nil {
+		return 0, err
+	}
+	return 0, t.heard(held, grant)
+}
+
+// isGrant returns why an answer is none to a request for a grant.
+func (t *Task) isGrant(made answer, held *leases) error {
+	if made.status == http.StatusConflict {
+		var told struct{ Refused string }
+		if err := made.object(&told); err != nil || told.Refused == "" {
+			return fmt.Errorf("%.80q is no refusal", made.body)
+		}
+		return nil
+	}
+	grant, err := hourstable.ReadGrant(t.config.Job, made.body)
+	if err == nil && (grant.Task != t.config.Task || grant.Life != uint64(held.life)) {
+		err = fmt.Errorf("the grant is of task %d in life %d", grant.Task, grant.Life)
+	}
+	return err
+}
+
+// refused returns for how long to wait after the table refused a grant.
+func (t *Task) refused(body []byte) time.Duration {
+	var told struct{ Refused string }
+	if json.Unmarshal(body, &told) == nil && told.Refused == "no-assignment" {
+		return 500 * time.Millisecond
+	}
+	t.config.Logger.Warn("the table refused a grant", "why", told.Refused)
+	return 2 * time.Second
+}
+
+// heard learns the phase from a lease, since a bridge to a generation says that it is
+// proposed, and sets when it is renewed: at half of it, a little earlier or later.
+func (t *Task) heard(held *leases, grant hourstable.Grant) error {
+	phase := hourstable.Phase{Committed: grant.Generation}
+	if grant.Kind == hourstable.Bridge {
+		phase = hourstable.Phase{Committed: grant.Generation - 1, Proposed: grant.Generation}
+	}
+	t.learnPhase(phase)
+	at, err := held.read()
+	if err != nil {
+		return err
+	}
+	half := 0.0
+	if at < grant.Ends {
+		half = float64(grant.Ends-at) / 2
+	}
+	t.mutex.Lock()
+	t.hasServed = true
+	t.renewAt = at + uint64(half*(1+jitter*(2*random()-1)))
+	t.counts.Heard[grant.Kind.String()]++
+	t.mutex.Unlock()
+	t.notice()
+	return nil
+}
+
+// rest renews the lease of a kind if it is time, or returns how long there is nothing
+// to do.
+func (t *Task) rest(ctx context.Context, held *leases, at uint64, kind hourstable.Kind) (time.Duration, error) {
+	grant, isHeld := held.lease(kind)
+	t.mutex.Lock()
+	until := t.renewAt
+	t.mutex.Unlock()
+	if !isHeld || at >= until {
+		wait, err := t.ask(ctx, held)
+		if wait == 0 && !isHeld {
+			wait = 500 * time.Millisecond
+		}
+		return wait, err
+	}
+	if grant.Ends < until {
+		until = grant.Ends
+	}
+	if until <= at {
+		return time.Millisecond, nil
+	}
+	return time.Duration(until-at) * time.Millisecond, nil
+}
