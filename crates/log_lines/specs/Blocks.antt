@@ -1,5 +1,5 @@
 -- The entry and the end of a block of work on a key: the task's clock is read, the slicelet is asked at its value, and the line of that call is given.
-use Rattle.std.specs.Prelude.{◌≡◌, ℕ, ℤ, pos, negsuc, List, [], ◌∷◌, replicate, Option, Some}
+use Rattle.std.specs.Prelude.{◌≡◌, ℕ, ℤ, pos, negsuc, List, [], ◌∷◌, replicate, Some}
 use Rattle.assignment.specs.declared.slice.TheConstants.{MOST_OWNERS}
 use Rattle.clocks.specs.declared.numbers.TaskClockNumbers.{TaskClockNumbers}
 use Rattle.clocks.specs.TaskClocks.{read_answer}
@@ -7,7 +7,6 @@ use Rattle.slicelet.specs.States.{SliceletState}
 use Rattle.c_calls.specs.declared.answer.Answer.{Answer}
 use Rattle.c_calls.specs.declared.answer.Answer.TheVariants.{Done}
 use Rattle.c_calls.specs.declared.clerks.owners.OwnersNumbers.{OwnersNumbers}
-use Rattle.c_calls.specs.declared.details.AnswerDetails.{AnswerDetails}
 use Rattle.c_calls.specs.declared.tables.terms.PhaseNumbers.{PhaseNumbers}
 use Rattle.c_calls.specs.declared.tables.terms.TermNumbers.{TermNumbers}
 use Rattle.c_calls.specs.AnswerNumbers.{answer_number}

@@ -191,7 +191,7 @@ pub const HS_CALL_RESTORE: u32 = 9;
 pub const HS_CALL_OPEN: u32 = 10;
 /// hs_slicelet_start
 pub const HS_CALL_START: u32 = 11;
-/// hs_slicelet_hear
+/// hs_slicelet_hear, hs_slicelet_receive
 pub const HS_CALL_HEAR: u32 = 12;
 /// hs_slicelet_release
 pub const HS_CALL_RELEASE: u32 = 13;
@@ -207,6 +207,8 @@ pub const HS_CALL_LEARN: u32 = 17;
 pub const HS_CALL_LOOK: u32 = 18;
 /// hs_clerk_forget
 pub const HS_CALL_FORGET: u32 = 19;
+/// hs_task_clock_sample
+pub const HS_CALL_SAMPLE: u32 = 20;
 
 /// Numbers that a code comes with. A call sets just the fields that its code names, unless its comment
 /// says otherwise: hs_slicelet_hear, _serve, _serve_at, _hold and _hold_at tell a lease where they are
@@ -253,6 +255,21 @@ pub struct hs_block {
     pub handle: hs_key_handle,
     /// what hs_slicelet_enter told
     pub told: hs_told,
+}
+
+/// A grant that a task received, for hs_slicelet_receive. The caller sets `ticket` before the call; the call
+/// writes the other members.
+#[repr(C)]
+#[derive(Clone, Copy, Debug, Default, PartialEq, Eq)]
+pub struct hs_receipt {
+    /// the place of the call among all calls of the job (docs/AUDIT.md)
+    pub ticket: u64,
+    /// the task's reading at which the call was made
+    pub at: u64,
+    /// what hs_slicelet_hear told of the grant
+    pub told: hs_told,
+    /// 1 if the grant shows that clocks are not timely, and was not heard; else 0
+    pub evidence: u32,
 }
 
 /// A lease that a task holds.
@@ -441,7 +458,7 @@ pub struct hs_logged_call {
     pub call: u32,
     /// what it returned
     pub code: i32,
-    /// each call of a slicelet, and HS_CALL_GRANT
+    /// each call of a slicelet, HS_CALL_GRANT, and HS_CALL_SAMPLE
     pub task: u64,
     /// each call of a clerk: its number in the job, from 1
     pub clerk: u64,
@@ -449,7 +466,7 @@ pub struct hs_logged_call {
     pub assigner: u64,
     /// HS_CALL_RENEW, _PROPOSE, _COMMIT: the number that was passed
     pub term: u64,
-    /// each call that is passed a reading
+    /// each call that is passed a reading; HS_CALL_SAMPLE: `now`
     pub at: u64,
     /// HS_CALL_SERVE, _HOLD, _LOOK: hs_slice_key of the key
     pub slice_key: u64,
@@ -469,6 +486,10 @@ pub struct hs_logged_call {
     pub handle: hs_key_handle,
     /// HS_CALL_LOOK: what was written
     pub owners: hs_owners,
+    /// HS_CALL_SAMPLE: what was passed
+    pub sent: u64,
+    /// HS_CALL_SAMPLE: what was passed
+    pub reading: u64,
 }
 
 /// A version of the library: major.minor.patch.
@@ -534,6 +555,18 @@ extern "C" {
     /// then HS_NOT_STARTED, HS_CLOCK_BACK, HS_OTHER_TASK, HS_OTHER_LIFE, HS_OLD, HS_TOO_LATE,
     /// HS_HISTORY_FULL, HS_NO_MEMORY.
     pub fn hs_slicelet_hear(place: *mut hs_place, grant: *const u8, grant_len: usize, at: u64, told: *mut hs_told) -> i32;
+    /// Receives a grant, given as its message: hs_task_clock_read at the local reading `now`,
+    /// hs_clock_evidence and hs_slicelet_hear at the value, and the line of the hearing, as hs_log_line writes
+    /// it for HS_CALL_HEAR with receipt->ticket, in one call, which decodes the message once. Returns the code
+    /// of hs_slicelet_hear, also if it is not 0, and writes receipt->at and ->told, and 0 to ->evidence. If the
+    /// grant shows that clocks are not timely, nothing is heard and no line is written: returns HS_DONE, and
+    /// writes receipt->at, 1 to ->evidence, and 0 to *needed. If `out_len` is 0, no line is written, and *needed
+    /// is 0. Draw the ticket before the call. HS_WRONG_FORM if `per` of the clock is 0, then the codes of
+    /// hs_task_clock_read, HS_WRONG_FORM if a number of the policy is outside its limits, message codes, then
+    /// those of hs_slicelet_hear; but HS_NO_ROOM or HS_NO_MEMORY may come in place of the last ones if a line is
+    /// wanted. With a negative code, and with those of hs_task_clock_read, no call was made and there is no
+    /// line: the slicelet, the clock and the receipt are unchanged. The clock and the place are called alone.
+    pub fn hs_slicelet_receive(place: *mut hs_place, clock: *mut hs_task_clock, now: u64, policy: *const hs_policy, grant: *const u8, grant_len: usize, receipt: *mut hs_receipt, out: *mut u8, out_len: usize, needed: *mut usize) -> i32;
     /// Gives up the lease of a kind, which may have ended, and writes the message of its note, for the
     /// table. HS_WRONG_FORM, HS_NOT_STARTED, HS_CLOCK_BACK, HS_NOTHING_HELD, HS_HISTORY_FULL, then
     /// HS_NO_ROOM or HS_NO_MEMORY. The lease is still held unless the call is done.
