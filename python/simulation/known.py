@@ -12,7 +12,6 @@ RANGE = re.compile(r"(\d+)(?:\.\.(\d+))?")
 GATE = re.compile(r"^The gate runs the seeds 1\.\.(\d+)\.$", re.MULTILINE)
 HEAD = "## The lists\n\n"
 OF_EACH = 3  # seeds of each cause that it runs as well
-BLACK_HOLES = {"reset", "crash", "power"}  # kinds after which a connection may have no other end
 FOLLOWS = {"unserved", "not_renewed", "waiting"}  # what a task or a plane that has ended brings about
 
 
@@ -30,21 +29,8 @@ def _cause(name: str, checks: str, shows: str, worlds: str = "") -> Cause:
 
 
 CAUSES = (
-    _cause("secret", "exited died", r"Rejected.*401|Rejected: 401"),
-    _cause(
-        "odd-answer", "exited died",
-        r"JSONDecodeError|an answer is no object|Refused\('|Refused: |KeyError|TypeError",
-    ),
-    _cause("callback", "exited died", r"on_(lose|gain) fails"),
-    _cause("failover", "denied", r"", "failover"),
-    _cause("wrong-day", "exited died", r"more than a day ahead"),
-    _cause("wrong-day", "unserved not_renewed waiting behind", r"", "clocks"),
-    _cause("never-retrieved", "died", r": (Control\._fetch|Direct\.fetch|Http\.fetch|[A-Za-z]*Store\.): "),
-    _cause("clock-broken", "unserved not_renewed", r"", "wild"),
-    _cause("full-disk", "answered_500", r"No space left|no space left"),
     _cause("backup", "unsafe history exited died unserved not_renewed", r"", "backup"),
     _cause("second-process", "unsafe history", r"", "seconds"),
-    _cause("left-open", "grown", r"connections", "stores"),
 )
 
 
@@ -57,13 +43,6 @@ def causes_of(found: Found) -> set[str]:
             name = cause_of(found, check, one)
             made |= {name} if name else set()
             is_explained &= bool(name) or check in FOLLOWS
-    kinds = {it.kind for it in found.faults}
-    if set(found.wrong) == {"unserved"} and BLACK_HOLES & kinds:
-        made.add("black-hole")
-    elif found.wrong and not made and found.figures.get("lone_assigners") and is_explained:
-        made.add("lone-assigner")
-    elif found.wrong and not made and set(found.wrong) <= FOLLOWS and "store_freezes" in kinds:
-        made.add("frozen-store")
     if found.wrong and not (is_explained and made):
         made.add("new")
     return made
