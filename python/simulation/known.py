@@ -10,6 +10,7 @@ LIST = Path(__file__).with_name("known.md")
 SEEDS = re.compile(r"^Seeds of `([a-z-]+)`: (.*?)$", re.MULTILINE)
 RANGE = re.compile(r"(\d+)(?:\.\.(\d+))?")
 GATE = re.compile(r"^The gate runs the seeds 1\.\.(\d+)\.$", re.MULTILINE)
+MENDED = re.compile(r"^Seeds of faults that are mended: (.*?)$", re.MULTILINE)
 HEAD = "## The lists\n\n"
 OF_EACH = 3  # seeds of each cause that it runs as well
 FOLLOWS = {"unserved", "not_renewed", "waiting"}  # what a task or a plane that has ended brings about
@@ -73,9 +74,12 @@ def listed() -> dict[int, set[str]]:
 
 
 def gate() -> list[int]:
-    """Returns the seeds of the gate: the first ones, and the first of those that show each cause."""
-    last = GATE.search(LIST.read_text(encoding="utf-8"))
+    """Returns the seeds of the gate: the first ones, those that showed a fault which is mended, and the first of those
+    that show each cause."""
+    text = LIST.read_text(encoding="utf-8")
+    last, mended = GATE.search(text), MENDED.search(text)
     made = set(range(1, int(last[1]) + 1)) if last else set[int]()
+    made |= set(map(int, mended[1].split())) if mended else set[int]()
     for name in {name for names in listed().values() for name in names}:
         seeds = sorted(seed for seed, names in listed().items() if name in names)
         made |= set(seeds[:OF_EACH])
