@@ -229,6 +229,13 @@ class Job:
         code = library.hs_slicelet_check(ref(self.tasks[task]), ref(call.handle), at)
         self.log("check", code, call=call, task=task, at=at)
 
+    def sample(self) -> None:
+        """Lets a task's clock take an answer of the table, and logs it."""
+        call, sent, late = LoggedCall(), self.draw.randrange(100), self.draw.randrange(5)
+        call.sent, call.reading = sent, self.at()
+        code = library.hs_task_clock_sample(ref(TaskClock(0, 1, 0, oldest=9)), sent, call.reading, sent + late)
+        self.log("sample", code, call=call, task=self.draw.choice((1, 2, 3)), at=sent + late)
+
     def block(self, name: str, task: int, block: Block, *given: object) -> int:
         """Makes a call of a block, by a task's clock that shows a reading of this job."""
         clock, room, needed = TaskClock(0, 1, 0, oldest=0), ctypes.create_string_buffer(512), ctypes.c_size_t()
@@ -281,8 +288,8 @@ class Job:
     def play(self, calls: int) -> None:
         often = [self.serve, self.hear, self.grant, self.start, self.commit, self.propose, self.renew]
         some = [
-            self.hold, self.check, self.enter, self.leave, self.release, self.free, self.learn, self.look, self.take,
-            self.phase,
+            self.hold, self.check, self.enter, self.leave, self.sample, self.release, self.free, self.learn, self.look,
+            self.take, self.phase,
         ]
         seldom = [self.lose, self.restore, self.open, self.forget]
         for _ in range(calls):
