@@ -74,8 +74,8 @@ def listed() -> dict[int, set[str]]:
 
 
 def gate() -> list[int]:
-    """Returns the seeds of the gate: the first ones, those that showed a fault which is mended, and the first of those
-    that show each cause."""
+    """Returns the seeds of the gate: the first ones, those that showed a fault which is mended, and the
+    first of those that show each cause."""
     text = LIST.read_text(encoding="utf-8")
     last, mended = GATE.search(text), MENDED.search(text)
     made = set(range(1, int(last[1]) + 1)) if last else set[int]()

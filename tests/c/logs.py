@@ -288,8 +288,8 @@ class Job:
     def play(self, calls: int) -> None:
         often = [self.serve, self.hear, self.grant, self.start, self.commit, self.propose, self.renew]
         some = [
-            self.hold, self.check, self.enter, self.leave, self.sample, self.release, self.free, self.learn, self.look,
-            self.take, self.phase,
+            self.hold, self.check, self.enter, self.leave, self.sample, self.release, self.free, self.learn,
+            self.look, self.take, self.phase,
         ]
         seldom = [self.lose, self.restore, self.open, self.forget]
         for _ in range(calls):
