@@ -67,7 +67,7 @@ def test_space_is_allocated_ahead_of_lines(tmp_path: Path) -> None:
     found = os.stat(tmp_path / f"task-1.{DAY}.jsonl")
     assert found.st_size == len(JOB) + len(line(1)) + 2
     if found.st_blocks * 512 < SEGMENT:
-        pytest.skip("this filesystem allocates nothing ahead")
+        pytest.fail("this filesystem allocates nothing ahead")
     log.close()
     assert os.stat(tmp_path / f"task-1.{DAY}.jsonl").st_blocks * 512 < SEGMENT
 
@@ -132,7 +132,7 @@ print(open({str(disk / f"task-1.{DAY}.jsonl")!r}).read(), end="")
     mount = f"mount -t tmpfs -o size=3m none {disk} && exec {sys.executable} -c \"$0\""
     unshare = ["unshare", "--mount", "--map-root-user"]
     if subprocess.run([*unshare, "mount", "-t", "tmpfs", "none", str(disk)], capture_output=True).returncode:
-        pytest.skip("no filesystem can be mounted here")
+        pytest.fail("no filesystem can be mounted here")
     ran = subprocess.run(
         [*unshare, "sh", "-c", mount, program], check=True, timeout=120, capture_output=True, text=True
     )

@@ -140,6 +140,7 @@ async def test_another_plane_is_asked(what: str, plane: Plane, tmp_path: Path) -
             await until(lambda: task.renewed.times >= 3)
             assert task.is_ready()
             assert counted(task.metrics.text(), "hourstable_control_wrong_answers_total", answer=word) >= 1
+            assert counted(task.metrics.text(), "hourstable_control_unreachable_total") == 0
         async with Router([url, plane.url], JOB) as router:
             await until(lambda: router.generation == 1)
 
