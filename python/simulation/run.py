@@ -21,7 +21,7 @@ from .world import SECOND, World
 MAY_EXIT = ("None", "OSError", "BlockingIOError", "StoreFailed")  # None: as it was asked to
 MOST_BEHIND = 2  # seconds by which a plane may show an older generation than another one
 QUIET_BOUND = 2.0  # seconds for which a key that moves may be denied: blocks that are open on it have one to end
-FAILOVER_BOUND = 1.0  # seconds for which a key that stays may be denied when one of two planes is lost
+FAILOVER_BOUND = 1.0  # seconds for which a key may be denied when one of two planes is lost
 CHECKS = (
     "unsafe", "history", "unserved", "not_renewed", "waiting", "grown", "died", "exited", "answered_500",
     "denied", "behind", "audit", "broken",
@@ -142,8 +142,7 @@ class Run:
         if scene.world == "failover":
             denied = [
                 str(it) for it in self.watch.denials
-                if it.seconds > (QUIET_BOUND if it.moved else FAILOVER_BOUND)
-                and it.begun > scene.begin * SECOND
+                if it.seconds > FAILOVER_BOUND and it.begun > scene.begin * SECOND
             ]
         if scene.world == "quiet":  # only keys that become hot move
             denied = [
