@@ -58,6 +58,7 @@ class Supervisor:
         made = asyncio.get_running_loop().create_task(self._once(where, work))
         self._others.add(made)
         made.add_done_callback(self._others.discard)
+        made.add_done_callback(lambda _: work.close())  # which is not begun if the task is cancelled at once
         return made
 
     def caught(self, where: str, error: BaseException, then: str = "") -> None:

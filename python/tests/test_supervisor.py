@@ -1,7 +1,9 @@
 """Tests of hourstable.supervisor."""
 
 import asyncio
+import gc
 import logging
+import warnings
 from collections.abc import Callable
 
 import pytest
@@ -42,6 +44,20 @@ async def test_a_loop_that_fails_begins_again(caplog: pytest.LogCaptureFixture) 
     assert "Traceback" in caplog.text
     await supervisor.close()
     assert running.done() and supervisor.ended() == ["poller"]
+
+
+async def test_work_that_is_cancelled_before_it_begins_leaves_nothing_behind() -> None:
+    """As a look at a job does that is spawned in the moment in which a plane closes."""
+    async def work() -> None:
+        raise AssertionError("it has begun")
+
+    supervisor = made()
+    with warnings.catch_warnings(record=True) as warned:
+        warnings.simplefilter("always")
+        supervisor.spawn("look_at", work())
+        await supervisor.close()
+        gc.collect()
+    assert [str(it.message) for it in warned] == []
 
 
 async def test_a_loop_that_fails_at_once_begins_again_ever_later() -> None:
