@@ -148,6 +148,35 @@ def test_each_alert_says_what_to_do() -> None:
         assert re.search(rf"^\|[^|]*`{rule['alert']}`", table, re.MULTILINE), rule["alert"]
 
 
+RUNS = """
+rule_files: [{alerts}]
+evaluation_interval: 30s
+tests:
+  - interval: 30s
+    input_series:
+      - {{series: 'hourstable_job_failed{{job="shop", instance="plane-1:8070"}}', values: '0 1 1 1 1 0'}}
+      - {{series: 'hourstable_job_failed{{job="shop", instance="plane-2:8070"}}', values: '0 0 0 0 0 0'}}
+      - {{series: 'hourstable_job_failed{{job="cart", instance="plane-1:8070"}}', values: '0 1 0 1 0 1'}}
+    alert_rule_test:
+      - {{eval_time: 1m, alertname: HourstableJobFailed, exp_alerts: []}}
+      - eval_time: 2m
+        alertname: HourstableJobFailed
+        exp_alerts:
+          - exp_labels: {{severity: critical, job: shop, instance: "plane-1:8070"}}
+            exp_annotations: {{summary: "Job shop does not work on the control plane plane-1:8070"}}
+      - {{eval_time: 150s, alertname: HourstableJobFailed, exp_alerts: []}}
+"""
+
+
+def test_a_job_that_failed_for_a_minute_fires(tmp_path: Path) -> None:
+    """On the plane where it does; one that fails for a moment at a time does not."""
+    needed.command("promtool")
+    runs = tmp_path / "runs.yml"
+    runs.write_text(RUNS.format(alerts=ALERTS))
+    ran = subprocess.run(["promtool", "test", "rules", runs], capture_output=True, text=True)
+    assert ran.returncode == 0, ran.stdout + ran.stderr
+
+
 def test_prometheus_reads_the_alerts() -> None:
     needed.command("promtool")
     ran = subprocess.run(["promtool", "check", "rules", ALERTS], capture_output=True, text=True)
