@@ -185,3 +185,13 @@ func TestProcessesDrawOtherNumbers(t *testing.T) {
 		t.Error(drawn)
 	}
 }
+
+func TestATaskOfAnotherNumber(t *testing.T) {
+	for _, number := range []uint64{0, 65, 193, 1 << 40} {
+		config := TaskConfig{Control: []string{"http://127.0.0.1:1"}, Job: "shop", Task: number}
+		if task, err := NewTask(config); err == nil {
+			task.tickets.close()
+			t.Errorf("task %d is taken", number)
+		}
+	}
+}

@@ -18,6 +18,7 @@ const (
 	lastCalls    = 64  // a slicelet that accepts no more calls than these is replaced
 	jitter       = 0.1 // of half a lease, by which a renewal comes earlier or later
 	firstProcess = 64  // of tasks: task 1 draws the tickets of process 64
+	mostTasks    = 64
 )
 
 // TaskConfig says which task a process is, and where its control planes are.
@@ -80,8 +81,12 @@ type Task struct {
 	counts     Counts
 }
 
-// NewTask opens the tickets of a task. An error if another process has them.
+// NewTask opens the tickets of a task. An error if a number or a URL is none, or another
+// process has the tickets.
 func NewTask(config TaskConfig) (*Task, error) {
+	if config.Task < 1 || config.Task > mostTasks {
+		return nil, fmt.Errorf("hourstable: task %d is not 1 to %d", config.Task, mostTasks)
+	}
 	if err := checkPlanes(config.Control); err != nil {
 		return nil, err
 	}

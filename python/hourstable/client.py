@@ -23,10 +23,10 @@ from .calls import TIMEOUT, WAIT, Control, Troubles, Unreachable
 from .clock import local_clock as local_clock_of
 from .kept_log import KeptLog
 from .library import CALLS, Clerk, Found, LoggedCall, Refused, log_line, owners_of, slice_key
-from .logs import Log, folder_of, job_line
+from .logs import CLERKS, Log, folder_of, job_line
 from .supervisor import Supervisor
 from .system import SYSTEM, System
-from .tickets import Tickets, follow
+from .tickets import Tickets, follow, number_of_caller
 from .transport import Transport
 from .waiting import Backoff, pause
 
@@ -49,9 +49,11 @@ class Router:
 
     It goes on whatever planes answer; `metrics` has what it counts. With `by_load` it picks, of several
     owners, the one to which the fewest attempts are underway, and else one at random. With `logs` it
-    writes a log of its clerk, which is number `clerk` of the job, 1 to 128. `transport` brings its
-    requests to planes in place of HTTP, `local_clock` is the clock by which answers are timed, and
-    `system` has its other clocks, chance and files.
+    writes a log of its clerk, which is number `clerk` of the job, 1 to 128; `keep_logs` is for how many days
+    its files are kept, by default for ever. `process` is its number for its tickets, 64 to 255, by default 127 and
+    that of the clerk; a number outside these limits is a ValueError. `transport` brings its requests to planes in
+    place of HTTP, `local_clock` is the clock by which answers are timed, and `system` has its other clocks, chance
+    and files.
     """
 
     def __init__(
@@ -61,6 +63,7 @@ class Router:
         *,
         by_load: bool = True,
         logs: str | os.PathLike[str] | None = None,
+        keep_logs: int | None = None,
         clerk: int = 1,
         process: int | None = None,
         secret: str | None = None,
@@ -70,9 +73,11 @@ class Router:
         transport: Transport | None = None,
         system: System = SYSTEM,
     ) -> None:
+        if not 1 <= clerk <= CLERKS:
+            raise ValueError(f"clerk {clerk} is not 1 to {CLERKS}")
         self.job, self.clerk, self.by_load = job, clerk, by_load
         self.metrics = RouterMetrics(job, clerk)
-        self._logs, self._system = logs, system
+        self._logs, self._keep_logs, self._system = logs, keep_logs, system
         self._random = system.random()
         self._tickets = self._tickets_of(process)
         name = f"clerk {clerk}"
@@ -93,7 +98,7 @@ class Router:
         self._changed = asyncio.Event()
 
     def _tickets_of(self, process: int | None) -> Tickets:
-        number = FIRST_PROCESS + self.clerk - 1 if process is None else process
+        number = number_of_caller(FIRST_PROCESS + self.clerk - 1 if process is None else process)
         if self._logs is None:
             return Tickets(number, None, now=follow, system=self._system)
         folder = folder_of(self._logs, self.job)
@@ -216,7 +221,7 @@ class Router:
     async def _open_log(self, logs: str | os.PathLike[str]) -> None:
         policy = await self._control.read(partial(replies.policy_in, self.job), "GET")
         folder, name = folder_of(logs, self.job), f"clerk-{self.clerk}"
-        opens = partial(Log, folder, name, job_line(policy), system=self._system)
+        opens = partial(Log, folder, name, job_line(policy), keep=self._keep_logs, system=self._system)
         try:
             self._log = KeptLog(
                 opens, f"clerk {self.clerk}", logger, self.metrics.log_missing.inc, self._system.monotonic

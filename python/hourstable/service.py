@@ -23,8 +23,7 @@ from hourstable.record import Record
 from hourstable.state import kept_in, state_folder
 from hourstable.store import DEADLINE, Store, open_store
 from hourstable.system import SYSTEM, System, make_folder
-from hourstable.task import FIRST_PROCESS as PROCESSES
-from hourstable.tickets import Tickets
+from hourstable.tickets import CALLERS, Tickets
 
 
 @dataclass
@@ -128,6 +127,6 @@ def _assigner(chosen: Options, plane: Plane, local: Callable[[], int], system: S
 def process_number(number: int) -> int:
     """Returns the number of a plane or an assigner, below those under which tasks and clients draw tickets. Raises
     ValueError if it is none."""
-    if not 0 <= number < PROCESSES:
-        raise ValueError(f"process {number} is not 0 to {PROCESSES - 1}: tasks and clients have those above")
+    if not 0 <= number < CALLERS.start:
+        raise ValueError(f"process {number} is not 0 to {CALLERS.start - 1}: tasks and clients have those above")
     return number

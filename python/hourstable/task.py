@@ -29,13 +29,13 @@ from .context import about
 from .kept_log import KeptLog
 from .leases import KINDS, ClockBehind, Leases, policy_of
 from .library import KeyHandle, Policy, Refused, TaskClock, ended_note, slice_key
-from .logs import Log, NoLog, folder_of, job_line
+from .logs import TASKS, Log, NoLog, folder_of, job_line
 from .moves import Moves, OnGain, OnLose
 from .phases import Phases
 from .ranges import KEYS, Ranges, holds, minus
 from .supervisor import Supervisor
 from .system import SYSTEM, System
-from .tickets import Tickets, follow
+from .tickets import CALLERS, Tickets, follow, number_of_caller
 from .transport import Transport
 from .waiting import Backoff, pause, within
 
@@ -45,7 +45,6 @@ __all__ = [
 ]
 
 GRAIN = 2
-FIRST_PROCESS = 64  # of tasks: task 1 draws the tickets of process 64
 LAST_CALLS = 64  # a slicelet that accepts no more calls than these is replaced
 LOAD_BITS = 10  # loads are reported for 1,024 parts of the slice keys
 JITTER = 0.1  # of half a lease, by which a renewal comes earlier or later
@@ -130,7 +129,8 @@ class Task:
     one for each job; the tickets of the task are kept there too. With None the task keeps neither.
     `sample` is the part of blocks that are logged, each with all of its calls or with none; other
     calls are always logged. `keep_logs` is for how many days its files are kept. `policy` creates the job if it is
-    not there, and is compared if it is. `oldest` is for how many ticks the task goes on without an
+    not there, and is compared if it is. `process` is the number of the process for its tickets, 64 to 255, by default
+    63 and that of the task. `oldest` is for how many ticks the task goes on without an
     answer of the table, by default nine tenths of a guard lease. `timeout` is for how many seconds
     it waits for an answer, at most a fifth of a guard lease.
 
@@ -140,6 +140,9 @@ class Task:
     have as long to end, and new ones are denied as `moving`. `deadline` is the reading of the
     task's clock at which the lease ends anyway. What a callback raises is logged and counted, and
     changes nothing else.
+
+    Raises ValueError if a number or the name of the job is outside its limits, and BlockingIOError if another process
+    draws its tickets.
 
     `transport` brings its requests to planes in place of HTTP by `tls`. `system` has its clocks but
     for `local_clock`, its chance and its files.
@@ -170,6 +173,8 @@ class Task:
         transport: Transport | None = None,
         system: System = SYSTEM,
     ) -> None:
+        if not 1 <= task <= TASKS:
+            raise ValueError(f"task {task} is not 1 to {TASKS}")
         self.job, self.task = job, task
         self.metrics = Metrics(job, task)
         self.clock_behind_total = 0  # how often its clock stopped the task
@@ -210,7 +215,7 @@ class Task:
         self._broken: ClockBroken | None = None
 
     def _tickets_of(self, process: int | None) -> Tickets:
-        number = FIRST_PROCESS + self.task - 1 if process is None else process
+        number = number_of_caller(CALLERS.start + self.task - 1 if process is None else process)
         if self._folder is None:
             return Tickets(number, None, now=follow, system=self._system)
         self._folder.mkdir(mode=0o700, parents=True, exist_ok=True)

@@ -24,12 +24,22 @@ PROCESS_BITS = 8
 PLACES = 1 << 56
 TICKETS = PLACES << PROCESS_BITS
 FARTHEST = 1 << 47  # milliseconds: no ticket of the year 6429 or later is drawn or observed
+CALLERS = range(64, 256)  # numbers of tasks and clients; control planes and assigners have those below
 MAGIC = b"hourstable-ticket"
 
 
 def real_milliseconds() -> int:
     """Returns the real time in milliseconds since 1970."""
     return SYSTEM.real_nanoseconds() // 1_000_000
+
+
+def number_of_caller(process: int) -> int:
+    """Returns the number of a task or a client, which is above those of control planes and assigners. Raises
+    ValueError if it is none."""
+    if process not in CALLERS:
+        limits = f"{CALLERS.start} to {CALLERS.stop - 1}"
+        raise ValueError(f"process {process} is not {limits}: control planes and assigners have those below")
+    return process
 
 
 def process_of(ticket: int) -> int:

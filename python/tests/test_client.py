@@ -4,11 +4,13 @@ import asyncio
 import time
 from collections.abc import AsyncIterator
 from pathlib import Path
+from typing import Any
 
 import pytest
 from aiohttp import web
 
 from hourstable import logs
+from hourstable.auditing import gaps_of
 from hourstable.calls import Control, Unreachable
 from hourstable.client import Again, NoOwner, Router
 from hourstable.library import Found
@@ -52,6 +54,26 @@ async def test_owners(plane: Plane, tmp_path: Path) -> None:
         "look 3: found generation 1 owners 2", "learn 3: learnt 2",
         "look 3: found generation 2 owners 2",
     ]
+
+
+async def test_a_router_keeps_its_logs_for_some_days(plane: Plane, tmp_path: Path) -> None:
+    plane.settle(1, [(0, 1)])
+    old = tmp_path / JOB / "clerk-3.2020-01-01.jsonl"
+    for keep in (None, 30):
+        old.parent.mkdir(exist_ok=True)
+        old.write_text(f"{logs.job_line(plane.policy)}\n{logs.line_of(7, 'forget', 'forgotten', clerk=3)}\n")
+        async with Router(plane.url, JOB, logs=tmp_path, clerk=3, keep_logs=keep) as router:
+            await known(router, 1)
+        assert old.exists() == (keep is None)
+    assert [gap.removed for gap in gaps_of(tmp_path / JOB)] == [old.name]
+
+
+async def test_numbers_that_are_those_of_others(plane: Plane) -> None:
+    wrong: list[dict[str, Any]] = [{"process": 63}, {"process": 256}, {"clerk": 0}, {"clerk": 129}]
+    for given in wrong:
+        with pytest.raises(ValueError, match="is not"):
+            Router(plane.url, JOB, **given)
+    Router(plane.url, JOB, process=64)
 
 
 async def test_an_attempt_that_is_denied_is_made_again_at_the_next_owner(plane: Plane) -> None:

@@ -45,6 +45,15 @@ def task_of(plane: Plane, tmp_path: Path) -> Callable[..., Task]:
     return made
 
 
+@pytest.mark.parametrize("given", [{"process": 63}, {"process": 256}, {"number": 0}, {"number": 65}])
+async def test_numbers_that_are_those_of_others(given: dict[str, int], task_of: Callable[..., Task]) -> None:
+    """Control planes and assigners draw tickets as 0 to 63, and the clerks as 128 on."""
+    with pytest.raises(ValueError, match="is not"):
+        task_of(**given)
+    task = task_of(process=64)
+    await task.stop()
+
+
 async def until(holds: Callable[[], object], seconds: float = 20.0) -> None:
     end = time.monotonic() + seconds
     while not holds():
