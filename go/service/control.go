@@ -11,7 +11,6 @@ import (
 	"net/http"
 	"net/url"
 	"strconv"
-	"strings"
 	"sync"
 	"time"
 )
@@ -25,36 +24,34 @@ const (
 	mostBytes     = 1 << 21         // of an answer
 	mostReading   = uint64(1) << 62 // those of a table are below it
 	toldAgain     = time.Minute     // after which a failure of a plane is logged once more
+	hedgeAfter    = 3               // of its time a third, after which another plane is asked as well
 )
 
 // control is the control planes of a job, of which one answers at a time. A call
 // goes to the one that answered last, and to the next one if it does not.
 type control struct {
 	job, secret string
+	planes      *planes
 	client      *http.Client
 	tickets     *tickets
 	local       func() (uint64, error)
 	timeout     time.Duration
 	logger      Logger
 	retries     *budget
+	hedges      *budget
 
 	mutex    sync.Mutex
-	urls     []string          // the one that answered last comes first
 	troubles map[string]uint64 // of planes, by what they are
 	told     map[string]time.Time
 	silences map[string]time.Duration // of planes that send beats
 }
 
 func newControl(urls []string, job string) *control {
-	made := &control{
-		job: job, client: http.DefaultClient, timeout: usualTimeout, logger: silent{},
-		retries: newBudget(0), troubles: map[string]uint64{},
+	return &control{
+		job: job, planes: newPlanes(urls), client: http.DefaultClient, timeout: usualTimeout, logger: silent{},
+		retries: newBudget(0), hedges: newBudget(0), troubles: map[string]uint64{},
 		told: map[string]time.Time{}, silences: map[string]time.Duration{},
 	}
-	for _, one := range urls {
-		made.urls = append(made.urls, strings.TrimRight(one, "/"))
-	}
-	return made
 }
 
 // checkPlanes returns an error if there is no control plane or a URL is none. It does
@@ -86,6 +83,7 @@ type request struct {
 	body         []byte
 	timeout      time.Duration      // of a GET that waits; that of the control planes if 0
 	read         func(answer) error // takes the answer: an error if no control plane answers so
+	late         func(answer)       // takes an answer that comes after another one; nil if one plane at a time is asked
 }
 
 // answer is what a control plane answered with 200 to 204, or 409.
@@ -137,62 +135,151 @@ func (u *unreached) wait(failures *backoff, limit time.Duration) time.Duration {
 	return wait
 }
 
+// attempt is how a call at one plane ended.
+type attempt struct {
+	plane string
+	made  answer
+	err   error
+	panic any
+}
+
 // call makes a call of the job. The error is that of the context, *unreached, which is
 // ErrUnreachable, or one of this process.
 func (c *control) call(ctx context.Context, asked request) (answer, error) {
-	failed := &unreached{what: "connection", why: errors.New("there is no control plane")}
-	isBusy, missing := false, 0
-	var tried []string
 	c.retries.add()
-	for plane := c.next(tried); plane != "" && (len(tried) == 0 || c.retries.take()); plane = c.next(tried) {
+	c.hedges.add()
+	tried := tries{control: c, failed: &unreached{what: "connection", why: errors.New("there is no control plane")}}
+	if asked.late != nil {
+		return c.hedge(ctx, asked, &tried)
+	}
+	for plane := tried.next(c.retries); plane != ""; plane = tried.next(c.retries) {
 		made, err := c.try(ctx, plane, asked)
-		if !errors.As(err, &failed) {
+		if isOver := tried.ended(plane, err); isOver {
 			return made, err
 		}
-		c.leave(plane, failed)
-		isBusy = isBusy || failed.isBusy
-		if failed.what == "404" {
-			missing++
-		}
-		tried = append(tried, plane)
 	}
-	failed.isBusy, failed.isMissing = isBusy, missing > 0 && c.next(tried) == "" && missing == len(tried)
-	return answer{}, failed
+	return answer{}, tried.why()
 }
 
-// next returns the plane that is asked next of those that were not, "" for none.
-func (c *control) next(tried []string) string {
-	c.mutex.Lock()
-	defer c.mutex.Unlock()
-next:
-	for _, plane := range c.urls {
-		for _, other := range tried {
-			if plane == other {
-				continue next
+// hedge makes a call, and once a try has waited for a third of its time, at the next
+// plane as well. The first answer counts; one that comes later is for asked.late.
+func (c *control) hedge(ctx context.Context, asked request, tried *tries) (answer, error) {
+	third := time.NewTimer(c.timeout / hedgeAfter)
+	defer third.Stop()
+	ended, running := make(chan attempt), 0
+	over := make(chan struct{})
+	defer close(over)
+	for plane := tried.next(c.retries); plane != "" || running > 0; {
+		if plane != "" {
+			running++
+			go c.attempt(ctx, plane, asked, ended, over)
+		}
+		plane = ""
+		select {
+		case <-third.C:
+			plane = tried.next(c.hedges)
+		case one := <-ended:
+			running--
+			if one.panic != nil {
+				panic(one.panic)
+			}
+			if isOver := tried.ended(one.plane, one.err); isOver {
+				return one.made, one.err
+			}
+			if running == 0 {
+				plane = tried.next(c.retries)
 			}
 		}
-		return plane
 	}
-	return ""
+	return answer{}, tried.why()
 }
 
-// leave puts a plane last that failed, counts it and logs it once a minute. A call that
-// failed beside this one does not bring it back.
+// attempt makes a call at a plane, and tells who waits for it; or, if the call is over,
+// who hears what comes late.
+func (c *control) attempt(ctx context.Context, plane string, asked request, ended chan<- attempt, over <-chan struct{}) {
+	one := attempt{plane: plane}
+	defer func() {
+		one.panic = recover()
+		select {
+		case ended <- one:
+		case <-over:
+			c.cameLate(one, asked)
+		}
+	}()
+	one.made, one.err = c.try(ctx, plane, asked)
+}
+
+func (c *control) cameLate(one attempt, asked request) {
+	var trouble *unreached
+	switch {
+	case one.panic != nil:
+		c.logger.Error("a call that came late panicked", "why", one.panic)
+	case errors.As(one.err, &trouble):
+		c.leave(one.plane, trouble)
+	case one.err == nil:
+		c.planes.answered(one.plane)
+		asked.late(one.made)
+	}
+}
+
+// tries are those of one call, each at another plane.
+type tries struct {
+	control *control
+	tried   []string
+	failed  *unreached // of the last one
+	isBusy  bool
+	missing int // that have no such job
+}
+
+// next returns the plane to ask now, "" for none: the first one, or as long as the
+// budget has some left another one.
+func (t *tries) next(left *budget) string {
+	plane := t.control.planes.next(t.tried, t.control.timeout)
+	if plane == "" || len(t.tried) > 0 && !left.take() {
+		return ""
+	}
+	t.tried = append(t.tried, plane)
+	return plane
+}
+
+// ended notes how a try ended, and says whether the call is over.
+func (t *tries) ended(plane string, err error) bool {
+	var trouble *unreached
+	if !errors.As(err, &trouble) {
+		if err == nil {
+			t.control.planes.answered(plane)
+		}
+		return true
+	}
+	t.control.leave(plane, trouble)
+	t.failed, t.isBusy = trouble, t.isBusy || trouble.isBusy
+	if trouble.what == "404" {
+		t.missing++
+	}
+	return false
+}
+
+// why returns why no plane did the call.
+func (t *tries) why() error {
+	t.failed.isBusy = t.isBusy
+	t.failed.isMissing = t.missing > 0 && t.missing == t.control.planes.count()
+	return t.failed
+}
+
+// leave leaves a plane that failed, counts it and logs it once a minute.
 func (c *control) leave(plane string, why *unreached) {
-	if c.left(plane, why) {
+	c.planes.failed(plane, why.what == "connection", c.timeout)
+	if c.count(plane, why) {
 		c.logger.Warn("a control plane did not do a call",
 			"plane", shown(plane), "request", why.request, "why", why.why, "mend", mending(why.what))
 	}
 }
 
-// left returns whether the failure is to be logged.
-func (c *control) left(plane string, why *unreached) bool {
+// count returns whether the failure is to be logged.
+func (c *control) count(plane string, why *unreached) bool {
 	c.mutex.Lock()
 	defer c.mutex.Unlock()
 	c.troubles[why.what]++
-	if len(c.urls) > 0 && c.urls[0] == plane {
-		c.urls = append(c.urls[1:len(c.urls):len(c.urls)], plane)
-	}
 	name, now := plane+" "+why.what, time.Now()
 	last, isTold := c.told[name]
 	if isTold && now.Sub(last) < toldAgain {

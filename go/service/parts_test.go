@@ -11,6 +11,7 @@ import (
 	"path/filepath"
 	"reflect"
 	"strings"
+	"sync"
 	"testing"
 	"time"
 
@@ -193,5 +194,99 @@ func TestATaskOfAnotherNumber(t *testing.T) {
 			task.tickets.close()
 			t.Errorf("task %d is taken", number)
 		}
+	}
+}
+
+// A plane that stands by answers that it cannot do a call yet: nobody goes back to the
+// one that is silent for it.
+func TestAPlaneThatStandsByLeadsNobodyBack(t *testing.T) {
+	ends := make(chan struct{})
+	defer close(ends)
+	var mutex sync.Mutex
+	asked := 0
+	dead := plane(t, func(_ http.ResponseWriter, in *http.Request) {
+		mutex.Lock()
+		asked++
+		mutex.Unlock()
+		<-ends
+	})
+	standby := plane(t, func(out http.ResponseWriter, _ *http.Request) {
+		out.WriteHeader(http.StatusServiceUnavailable)
+	})
+	asks := controlOf(t, dead, standby)
+	for range [5]int{} {
+		if _, err := asks.call(context.Background(), request{method: "GET"}); !errors.Is(err, ErrUnreachable) {
+			t.Fatal(err)
+		}
+	}
+	mutex.Lock()
+	defer mutex.Unlock()
+	if asked != 1 {
+		t.Errorf("the silent plane was asked %d times", asked)
+	}
+}
+
+// A silent plane is asked again after a while.
+func TestAPlaneThatRests(t *testing.T) {
+	asks := newPlanes([]string{"a", "b", "c"})
+	asks.failed("a", true, time.Minute)
+	asks.failed("b", false, time.Minute)
+	for rest, order := range map[time.Duration]string{time.Minute: "cb", 0: "cab"} {
+		tried := []string{}
+		for plane := asks.next(tried, rest); plane != ""; plane = asks.next(tried, rest) {
+			tried = append(tried, plane)
+		}
+		if made := strings.Join(tried, ""); made != order {
+			t.Errorf("%v: %s, and not %s", rest, made, order)
+		}
+	}
+}
+
+// hedged makes calls at two planes, of which the first one answers after a while, and
+// returns how often each was asked.
+func hedged(t *testing.T, calls int, timeout, while time.Duration) (first, second int, took time.Duration) {
+	t.Helper()
+	var mutex sync.Mutex
+	asked := map[string]int{}
+	server := func(name string, while time.Duration) string {
+		return plane(t, func(out http.ResponseWriter, in *http.Request) {
+			mutex.Lock()
+			asked[name]++
+			mutex.Unlock()
+			time.Sleep(while)
+			out.Write([]byte("{}"))
+		})
+	}
+	asks := controlOf(t, server("first", while), server("second", 0))
+	asks.timeout = timeout
+	begun := time.Now()
+	for done := 0; done < calls; done++ {
+		_, err := asks.call(context.Background(), request{method: "POST", path: "/grant", late: func(answer) {}})
+		if err != nil {
+			t.Error(err)
+		}
+	}
+	took = time.Since(begun)
+	mutex.Lock()
+	defer mutex.Unlock()
+	return asked["first"], asked["second"], took
+}
+
+func TestAHedgedCall(t *testing.T) {
+	first, second, took := hedged(t, 1, time.Minute, 3*time.Second)
+	if first != 1 || second != 0 {
+		t.Errorf("%d and %d requests before a third of the time was over", first, second)
+	}
+	first, second, took = hedged(t, 1, 3*time.Second, 10*time.Second)
+	if first != 1 || second != 1 || took > 3*time.Second {
+		t.Errorf("%d and %d requests, %v", first, second, took)
+	}
+}
+
+func TestHedgesAreATenthOfTheCalls(t *testing.T) {
+	const calls = 150
+	first, second, _ := hedged(t, calls, 30*time.Millisecond, 20*time.Millisecond)
+	if first != calls || second < mostRetries || second > mostRetries+calls/10 {
+		t.Errorf("%d and %d requests", first, second)
 	}
 }

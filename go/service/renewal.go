@@ -46,6 +46,9 @@ func (t *Task) act(ctx context.Context) error {
 
 // step does one thing, and returns for how long nothing is to be done.
 func (t *Task) step(ctx context.Context) (time.Duration, error) {
+	if err := t.hearLate(); err != nil {
+		return 0, err
+	}
 	held := t.life()
 	if held == nil {
 		return 0, t.beginLife(ctx)
@@ -107,10 +110,42 @@ func (t *Task) ask(ctx context.Context, held *leases) (time.Duration, error) {
 	made, err := t.control.call(ctx, request{
 		method: http.MethodPost, path: "/grant", body: []byte(fmt.Sprintf(`{"task":%d,"life":%d}`, t.config.Task, held.life)),
 		read: func(made answer) error { return t.isGrant(made, held) },
+		late: func(made answer) { t.cameLate(made, held) },
 	})
 	if err != nil {
 		return 0, err
 	}
+	return t.hear(held, made)
+}
+
+// cameLate lets an answer be heard that came after another one: a note closes the rows
+// up to its number alone.
+func (t *Task) cameLate(made answer, held *leases) {
+	t.mutex.Lock()
+	defer t.mutex.Unlock()
+	t.late = append(t.late, lateAnswer{made, held})
+	wake(t.woken)
+}
+
+// hearLate hears what came late in this life.
+func (t *Task) hearLate() error {
+	t.mutex.Lock()
+	late, current := t.late, t.leases
+	t.late = nil
+	t.mutex.Unlock()
+	for _, it := range late {
+		if it.held != current || it.made.status == http.StatusConflict {
+			continue
+		}
+		if _, err := t.hear(it.held, it.made); err != nil {
+			return err
+		}
+	}
+	return nil
+}
+
+// hear hears a grant, or returns for how long to wait after it was refused.
+func (t *Task) hear(held *leases, made answer) (time.Duration, error) {
 	t.reached(nil)
 	if made.reading != nil { // an answer that repeats an earlier one has none
 		if err := held.sample(made); err != nil {

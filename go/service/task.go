@@ -65,6 +65,7 @@ type Task struct {
 	mutex      sync.Mutex
 	log        *callLog // nil for none
 	leases     *leases  // nil between two lives
+	late       []lateAnswer
 	phase      *hourstable.Phase
 	renewAt    uint64
 	served     []hourstable.Range
@@ -79,6 +80,12 @@ type Task struct {
 	left       chan struct{}
 	loads      map[uint64]uint64
 	counts     Counts
+}
+
+// lateAnswer is an answer to a call for a grant that came after another one.
+type lateAnswer struct {
+	made answer
+	held *leases
 }
 
 // NewTask opens the tickets of a task. An error if a number or a URL is none, or another

@@ -401,3 +401,30 @@ func TestNoPasswordIsLogged(t *testing.T) {
 		}
 	}
 }
+
+// A grant that comes after another one is heard: else the note of the task would not
+// close its row, and a commit would wait until it ends.
+func TestAGrantThatComesLateIsHeard(t *testing.T) {
+	job := newJob(t, 8000) // 1.6 s for an answer, and a hedge after a third of it
+	first, second := job.plane(), job.plane()
+	task := runs(t, TaskConfig{Control: []string{first.URL, second.URL}})
+	eventually(t, "the task has a lease", func() bool { return task.Counts().Heard["guard"] == 1 })
+	var isLate atomic.Bool
+	isLate.Store(true)
+	first.fail(func(_ http.ResponseWriter, in *http.Request) bool {
+		if strings.HasSuffix(in.URL.Path, "/grant") && isLate.CompareAndSwap(true, false) {
+			time.Sleep(time.Second) // and then the plane makes its grant
+		}
+		return false
+	})
+	eventually(t, "the task hears the grants of both planes", func() bool { return task.Counts().Heard["guard"] == 3 })
+	if len(second.times("grant")) != 1 {
+		t.Errorf("the other plane was asked %d times", len(second.times("grant")))
+	}
+	begun := time.Now()
+	job.propose(`[["0",[2]]]`)
+	job.commit()
+	if took := time.Since(begun); took > 5*time.Second {
+		t.Errorf("the commit waited %v for the row of a grant that nobody heard", took)
+	}
+}

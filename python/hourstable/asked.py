@@ -54,7 +54,7 @@ class Planes:
         if not urls:
             raise ValueError("there is no control plane")
         self.urls, self.rest = urls, rest
-        self.budget = RetryBudget(now)
+        self.budget, self.hedges = RetryBudget(now), RetryBudget(now)
         self._now = now
         self._at = 0
         self._silent: dict[int, float] = {}  # planes that gave no answer, and when
@@ -63,16 +63,12 @@ class Planes:
     def tries(self) -> Iterator[int]:
         """Returns the planes that a call is made at, one after the other until one does it: each at most once, and
         only the first one if the budget is spent. The caller tells how each try ended."""
-        self.budget.add()
-        tried: set[int] = set()
-        while (at := self._next(tried)) is not None:
-            if tried and not self.budget.take():
-                return
-            tried.add(at)
+        tries = Tries(self)
+        while (at := tries.next()) is not None:
             yield at
 
-    def _next(self, tried: set[int]) -> int | None:
-        """Returns the plane to ask, None if there is no other."""
+    def after(self, tried: set[int]) -> int | None:
+        """Returns the plane to ask after those that were tried, None if there is no other."""
         left = [it for it in self._round() if it not in tried]
         if tried and any(it not in self._silent for it in tried):  # one answered, so nobody waits for a silent one
             left = [it for it in left if not self._rests(it)]
@@ -109,3 +105,29 @@ class Planes:
         answer of it may wait for long."""
         while self._at == at or at not in self._silent:
             await self._left.wait()
+
+
+class Tries:
+    """The planes that one call is made at, each at most once."""
+
+    def __init__(self, planes: Planes) -> None:
+        self._planes, self._tried = planes, set[int]()
+        planes.budget.add()
+        planes.hedges.add()
+
+    def next(self) -> int | None:
+        """Returns the plane to ask first, or after one that did not do the call; None if there is no other, or the
+        budget is spent."""
+        return self._take(self._planes.budget)
+
+    def hedge(self) -> int | None:
+        """Returns the plane to ask beside one that has not answered yet, None if there is no other, or hedges are a
+        tenth of all calls already."""
+        return self._take(self._planes.hedges)
+
+    def _take(self, budget: RetryBudget) -> int | None:
+        at = self._planes.after(self._tried)
+        if at is None or (self._tried and not budget.take()):
+            return None
+        self._tried.add(at)
+        return at

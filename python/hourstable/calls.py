@@ -1,9 +1,11 @@
 """Calls of the control planes of a job, by HTTP: each goes to one that answers."""
 
+import asyncio
 import json
 import logging
 import ssl
-from collections.abc import Callable, Mapping, Sequence
+from collections.abc import Callable, Coroutine, Mapping, Sequence
+from functools import partial
 from types import TracebackType
 from typing import Any, NamedTuple, TypeVar
 from urllib.parse import quote
@@ -11,7 +13,7 @@ from urllib.parse import quote
 import aiohttp
 
 from . import beats
-from .asked import Planes
+from .asked import Planes, Tries
 from .library import Refused
 from .system import SYSTEM, System
 from .tickets import HEADER, Tickets
@@ -21,6 +23,7 @@ from .waiting import unless, within
 READING = "Hourstable-Reading"
 TIMEOUT = 2.0  # seconds that a call may take
 WAIT = 30.0  # seconds that a waiting GET takes if nothing happens
+HEDGE = 1 / 3  # of its time, after which a call may be made at another plane as well
 LIMITED = 1.0  # seconds that pass at least after a 429 before a call is made again
 TOLD_EVERY = 60.0  # seconds between two lines of the log about one trouble of a plane
 READINGS = 1 << 62  # those of a table are below it
@@ -134,6 +137,7 @@ class Control:
         self._own = Http(tls)
         self._transport = transport or self._own
         self._troubles = troubles
+        self._late: set[asyncio.Task[Any]] = set()  # tries of calls that another plane has answered
 
     def limit(self, timeout: float) -> None:
         """Lets a call take no longer than these seconds from now on, or as long as before if that is less."""
@@ -155,21 +159,83 @@ class Control:
         An answer of which `reads` raises ValueError, KeyError, TypeError or Refused is none of a plane, and the call
         is made at the next one.
         """
-        data = body if body is None or isinstance(body, bytes) else json.dumps(body).encode()
+        attempt = self._attempts(reads, method, path, body, timeout)
         failed, least = Unreachable("there is no control plane"), 0.0
         for at in self.planes.tries():
+            try:
+                return await attempt(at)
+            except Unreachable as why:
+                failed, least = why, max(least, why.least)
+        failed.least = least
+        raise failed
+
+    async def first(
+        self, reads: Callable[[Answer], T], late: Callable[[T], object], method: str, path: str, body: Body = None
+    ) -> T:
+        """Makes a call of the job as `read` does, and a hedge of it: once a try has waited for a third of its time,
+        the next plane is asked as well, by a request of its own. Returns what `reads` makes of the first answer, and
+        gives `late` what it makes of one that comes later. Raises Unreachable."""
+        attempt, tries = self._attempts(reads, method, path, body, None), Tries(self.planes)
+        failed, least = Unreachable("there is no control plane"), 0.0
+        running: set[asyncio.Task[T]] = set()
+        at, third = tries.next(), self.timeout * HEDGE
+        try:
+            while at is not None or running:
+                if at is not None:
+                    running.add(asyncio.create_task(attempt(at)))
+                limit = third if len(running) == 1 else None
+                done, _ = await asyncio.wait(running, timeout=limit, return_when=asyncio.FIRST_COMPLETED)
+                if not done:
+                    at, third = tries.hedge(), self.timeout
+                    continue
+                one = done.pop()
+                running.remove(one)
+                try:
+                    return one.result()
+                except Unreachable as why:
+                    failed, least = why, max(least, why.least)
+                at = None if running else tries.next()
+        except asyncio.CancelledError:
+            for one in running:
+                one.cancel()
+            raise
+        finally:
+            self._wait_for_late(running, late)
+        failed.least = least
+        raise failed
+
+    def _wait_for_late(self, running: "set[asyncio.Task[T]]", late: Callable[[T], object]) -> None:
+        for one in running:
+            self._late.add(one)
+            one.add_done_callback(partial(self._came_late, late))
+
+    def _came_late(self, late: Callable[[T], object], one: "asyncio.Task[T]") -> None:
+        self._late.discard(one)
+        if one.cancelled():
+            return
+        if one.exception() is None:
+            late(one.result())
+        elif not isinstance(one.exception(), Unreachable):
+            one.get_loop().call_exception_handler({"message": "a call that came late", "exception": one.exception()})
+
+    def _attempts(
+        self, reads: Callable[[Answer], T], method: str, path: str, body: Body, timeout: float | None
+    ) -> Callable[[int], Coroutine[Any, Any, T]]:
+        """Returns what makes a call at a plane, and notes how that ended."""
+        data = body if body is None or isinstance(body, bytes) else json.dumps(body).encode()
+
+        async def attempt(at: int) -> T:
             url = f"{self.planes.urls[at]}/jobs/{quote(self.job, safe='')}{path}"
             try:
                 made = _read(reads, await self._try(at, method, url, data, timeout), url)
             except Unreachable as why:
                 self.planes.failed(at, is_silent=not why.status)
                 self._note(url, why)
-                failed, least = why, max(least, why.least)
-            else:
-                self.planes.answered(at)
-                return made
-        failed.least = least
-        raise failed
+                raise
+            self.planes.answered(at)
+            return made
+
+        return attempt
 
     def _note(self, url: str, why: Unreachable) -> None:
         if isinstance(why, Wrong) and self._troubles is not None:
@@ -198,6 +264,10 @@ class Control:
 
     async def close(self) -> None:
         """Closes all connections."""
+        late = list(self._late)
+        for one in late:
+            one.cancel()
+        await asyncio.gather(*late, return_exceptions=True)
         await self._own.close()
 
     async def __aenter__(self) -> "Control":

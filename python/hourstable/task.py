@@ -16,6 +16,7 @@ import os
 import ssl
 import time
 from collections import Counter as Counts
+from collections import deque
 from collections.abc import AsyncIterator, Callable, Mapping, Sequence
 from contextlib import asynccontextmanager
 from functools import partial
@@ -203,6 +204,7 @@ class Task:
         self._log: KeptLog | NoLog | None = None
         self._leases: Leases | None = None
         self._dropped: list[int] = []  # lives whose leases are to be freed
+        self._late: deque[tuple[Leases, replies.Granted]] = deque()  # answers that came after the first one
         self._phases = Phases(self._control)
         self._renew_at = 0
         self._served: Ranges = []
@@ -455,6 +457,7 @@ class Task:
         if self._log.is_stopped and self._log.is_ready():
             await self._leave_life()
             self._log.go_on()
+        self._hear_late()
         if self._leases is not None and self._leases.calls_left() < LAST_CALLS:
             await self._end_life()
         if self._leases is None:
@@ -533,9 +536,25 @@ class Task:
 
     async def _ask(self, leases: Leases) -> float:
         """Asks the table for a grant, and hears it."""
-        told = await self._control.read(
-            partial(replies.granted, self.job), "POST", "/grant", {"task": self.task, "life": leases.life}
+        told = await self._control.first(
+            partial(replies.granted, self.job), partial(self._heard_late, leases),
+            "POST", "/grant", {"task": self.task, "life": leases.life},
         )
+        return self._hear(leases, told)
+
+    def _heard_late(self, leases: Leases, told: replies.Granted) -> None:
+        """Lets an answer be heard that came after another one: a note closes the rows up to its number alone."""
+        self._late.append((leases, told))
+        self._phases.changed.set()
+
+    def _hear_late(self) -> None:
+        while self._late:
+            leases, told = self._late.popleft()
+            if leases is self._leases and told.grant is not None:
+                self._hear(leases, told)
+
+    def _hear(self, leases: Leases, told: replies.Granted) -> float:
+        """Hears a grant, or returns for how long to wait after it was refused."""
         self._answered, self._is_cut_off = self._system.real_nanoseconds(), False
         if told.answer.reading is not None:
             leases.sample(told.answer.sent, told.answer.reading)

@@ -10,7 +10,7 @@ import pytest
 from aiohttp import web
 
 from hourstable.asked import Planes, RetryBudget
-from hourstable.calls import Control, Unreachable
+from hourstable.calls import Answer, Control, Unreachable
 from hourstable.client import Again, Router
 from hourstable.library import Found
 from hourstable.tickets import Tickets
@@ -223,3 +223,74 @@ def test_the_order_of_planes() -> None:
     assert sorted(tried()) == [0, 1, 2]
     with pytest.raises(ValueError, match="no control plane"):
         Planes([], lambda: 0.0, 1.0)
+
+
+async def after(seconds: float, answer: Callable[[], Awaitable[web.StreamResponse]] = fine) -> web.StreamResponse:
+    await asyncio.sleep(seconds)
+    return await answer()
+
+
+async def hedged(control: Control, late: list[Answer]) -> Answer:
+    return await control.first(lambda answer: answer, late.append, "POST", "/grant")
+
+
+async def test_a_hedged_call(two: tuple[Server, Server]) -> None:
+    first, second = two
+    readings = iter((10, 20))
+    first.answers = lambda: after(2.0)
+    late: list[Answer] = []
+    control = control_of(first, second, timeout=3.0)
+    control.local_clock = lambda: next(readings)
+    async with control:
+        begun = time.monotonic()
+        made = await hedged(control, late)
+        assert 0.9 < time.monotonic() - begun < 1.9
+        assert (first.asked, second.asked, late) == (1, 1, [])
+        await until(lambda: bool(late))
+    assert (made.sent, late[0].sent) == (20, 10)  # each is a request of its own
+
+
+async def test_a_call_that_is_answered_soon_has_no_hedge(two: tuple[Server, Server]) -> None:
+    first, second = two
+    first.answers = lambda: after(0.5)
+    async with control_of(first, second, timeout=60.0) as control:
+        await hedged(control, [])
+        assert (first.asked, second.asked) == (1, 0)
+
+
+async def test_a_hedged_call_goes_on_to_other_planes(two: tuple[Server, Server]) -> None:
+    first, second = two
+    first.answers, second.answers = never, stands_by
+    async with control_of(first, second, timeout=0.9) as control:
+        with pytest.raises(Unreachable):
+            await hedged(control, [])
+        assert (first.asked, second.asked) == (1, 1)
+        second.answers = fine
+        await hedged(control, [])
+        assert (first.asked, second.asked) == (1, 2)  # it has moved on from the silent one
+
+
+async def test_hedges_are_a_tenth_of_all_calls(two: tuple[Server, Server]) -> None:
+    first, second = two
+    first.answers = lambda: after(0.1)
+    async with control_of(first, second, timeout=0.15) as control:
+        for _ in range(60):
+            await control.call("GET")
+        for _ in range(40):
+            await hedged(control, [])
+        await asyncio.sleep(0.2)
+    assert first.asked == 100
+    assert 10 <= second.asked <= 20  # a tenth, and ten at first
+
+
+async def test_a_hedged_call_that_is_cancelled_leaves_nothing(two: tuple[Server, Server]) -> None:
+    first, second = two
+    first.answers = second.answers = never
+    async with control_of(first, second, timeout=1.5) as control:
+        before = asyncio.all_tasks()
+        asking = asyncio.create_task(hedged(control, []))
+        await until(lambda: second.asked == 1)
+        asking.cancel()
+        await asyncio.gather(asking, return_exceptions=True)
+        left = {it for it in asyncio.all_tasks() - before if "attempt" in repr(it.get_coro())}
+        assert not left or (await asyncio.wait(left, timeout=0.5))[1] == set()
