@@ -5,17 +5,17 @@ line: in this order a process that is stopped in between has a reading that is n
 ticket, never an older one.
 """
 
+import json
 from collections.abc import Callable, Mapping
 from functools import partial
-from typing import Any, TypeVar
+from typing import Any, NamedTuple, TypeVar
 
 from .kept_log import KeptLog
 from .library import KINDS as NUMBERS
 from .library import (
-    CALLS, KeyHandle, LoggedCall, Phase, Policy, Refused, Served, Slicelet, TaskClock,
-    clock_evidence, log_line,
+    CALLS, KeyHandle, LoggedCall, Phase, Policy, Receipt, Refused, Served, Slicelet, TaskClock, log_line,
 )
-from .logs import NoLog, value_of
+from .logs import NoLog
 from .ranges import Ranges, minus, ranges_of, union
 from .tickets import Tickets
 
@@ -28,13 +28,27 @@ class ClockBehind(Exception):
     none at all. Until it hears one, the task serves nothing."""
 
 
-class Held:
-    """A lease that the task heard: its keys, and its end by the task's clock."""
+class Held(NamedTuple):
+    """The lease of a grant: its keys, and its end by the task's clock."""
 
-    def __init__(self, grant: Mapping[str, Any]) -> None:
-        self.number, self.generation = int(grant["number"]), int(grant["generation"])
-        self.ranges: Ranges = ranges_of(grant["ranges"])
-        self.until = int(grant["ends"])
+    kind: str
+    number: int
+    generation: int
+    ranges: Ranges
+    until: int
+
+
+def held_in(job: str, message: bytes) -> Held:
+    """Returns the lease of a grant of a job, given as its message. Raises ValueError, LookupError or TypeError if it
+    is none. Whether all of the message is as it must be is what the library says when the grant is heard."""
+    told = json.loads(message)
+    if (told["job"], told["type"]) != (job, "grant"):
+        raise ValueError(f"no grant of {job}")
+    grant = told["value"]
+    if grant["kind"] not in KINDS:
+        raise ValueError(f"a lease of the kind {grant['kind']!r}")
+    number, generation, until = (int(grant[name]) for name in ("number", "generation", "ends"))
+    return Held(grant["kind"], number, generation, ranges_of(grant["ranges"]), until)
 
 
 def policy_of(members: Mapping[str, Any]) -> Policy:
@@ -64,6 +78,7 @@ class Leases:
         self.started = False
         self.held: dict[str, Held] = {}
         self._tickets, self._log = tickets, log
+        self._receipt = Receipt()
         self._slicelet = Slicelet.resume(job, task, last)
         opened = LoggedCall(ticket=tickets.draw(), call=CALLS["open"], task=task, life=last)
         if log.is_kept:
@@ -106,15 +121,24 @@ class Leases:
         self._call("start", lambda at: self._slicelet.start(self.life, at), life=self.life)
         self.started = True
 
-    def shows_evidence(self, grant: bytes, policy: Policy) -> bool:
-        """Whether a grant shows that clocks are not timely."""
-        return clock_evidence(self.job, grant, self.read(), policy)
-
-    def hear(self, grant: bytes) -> None:
-        """Hears a grant, given as its message."""
-        self._call("hear", lambda at: self._slicelet.hear(grant, at), grant)
-        value = value_of(grant)
-        self.held[value["kind"]] = Held(value)
+    def hear(self, grant: bytes, lease: Held, policy: Policy) -> bool:
+        """Hears a grant, given as its message and as its lease, and returns True; False if it shows that clocks are
+        not timely, and so is not heard. `policy` is that of the table."""
+        receipt, is_logged = self._receipt, self._log.is_kept
+        ticket = self._tickets.draw() if is_logged else 0
+        given = self.clock, self.local_clock(), ticket, policy, grant, receipt, is_logged
+        try:
+            heard = self._slicelet.receive(*given)
+        except Refused as refused:
+            if receipt.is_called or refused.code < 0:
+                raise
+            raise ClockBehind(str(refused)) from refused
+        finally:
+            if receipt.line:
+                self._log.append(receipt.line)
+        if heard is not None:
+            self.held[lease.kind] = lease
+        return heard is not None
 
     def release(self, kind: str) -> bytes:
         """Gives up the lease of a kind, and returns the message of its note."""

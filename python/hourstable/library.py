@@ -268,14 +268,20 @@ class LoggedCall(ctypes.Structure):
 
 
 class Receipt(ctypes.Structure):
-    """A grant that a task received, as hs_slicelet_receive of the header writes it. `evidence` is 1 if
-    the grant shows that clocks are not timely, and was not heard."""
+    """A grant that a task received. receive() of a slicelet writes it, and it may be used again.
+
+    `at` is the task's reading at which the last call was made, `told` what it told of the lease, and
+    `evidence` 1 if the grant shows that clocks are not timely, and was not heard. `is_called` and
+    `line` are those of a Block.
+    """
 
     _fields_ = [*fields("ticket at"), ("told", Told), ("evidence", ctypes.c_uint32)]
     ticket: int
     at: int
     told: Told
     evidence: int
+    is_called = False
+    line = ""
 
 
 class LoadRecord(Numbers):
@@ -765,6 +771,26 @@ class Slicelet(Standing):
         self.do("hear", grant, len(grant), at, self.told_by())
         return self.served()
 
+    def receive(
+        self, clock: TaskClock, now: int, ticket: int, policy: Policy, grant: bytes, receipt: Receipt,
+        logged: bool = True,
+    ) -> Served | None:
+        """Receives a grant, given as its message: reads the clock at the local reading `now`, hears the
+        grant at its value as hear() does, unless it shows that clocks are not timely, and writes the
+        line of that call, as log_line() does. The message is decoded once. `policy` is that of the
+        table; `ticket` and `logged` are as in enter().
+
+        Returns the lease, or None if the grant shows that clocks are not timely: then nothing is
+        heard, and there is no line. Raises Refused if the clock refuses, if the message is no grant of
+        the job, or if the grant is not heard: then there is a line. With any other code the clock is
+        as it was."""
+        room = len(grant) + LINE  # the line has what the grant says, and so the first call finds room
+        if logged and len(self._line) < room:
+            self._line = ctypes.create_string_buffer(room)
+        given = (clock, now, ctypes.byref(policy), grant, len(grant))
+        self._logged(self.function("receive"), receipt, ticket, logged, *given)
+        return None if receipt.evidence else lease_of(receipt.told)
+
     def release(self, kind: str, at: int) -> bytes:
         return self.text("release", KINDS[kind], at)
 
@@ -804,14 +830,14 @@ class Slicelet(Standing):
 
         Raises Refused if the clock refuses, or if the key is denied: then there is a line. Any other
         error leaves the clock as it was."""
-        self._block(ENTER, block, ticket, logged, clock, now, key, len(key))
+        self._logged(ENTER, block, ticket, logged, clock, now, key, len(key))
 
     def enter_at(
         self, clock: TaskClock, now: int, ticket: int, slice_key: int, block: Block, logged: bool = True
     ) -> None:
         """Enters a block of work on a key by its slice key."""
         fitting(ctypes.c_uint64, slice_key)
-        self._block(ENTER_AT, block, ticket, logged, clock, now, slice_key)
+        self._logged(ENTER_AT, block, ticket, logged, clock, now, slice_key)
 
     def leave(
         self, clock: TaskClock, now: int, ticket: int, block: Block, logged: bool = True
@@ -819,29 +845,29 @@ class Slicelet(Standing):
         """Leaves a block of work: reads the clock, and checks the handle that enter() took as check()
         does. Raises Refused if the clock refuses, or if the task did not hold the key all along.
         Otherwise as enter()."""
-        self._block(LEAVE, block, ticket, logged, clock, now)
+        self._logged(LEAVE, block, ticket, logged, clock, now)
 
-    def _block(
-        self, call: Callable[..., int], block: Block, ticket: int, logged: bool, *given: CType
+    def _logged(
+        self, call: Callable[..., int], it: Block | Receipt, ticket: int, logged: bool, *given: CType
     ) -> None:
-        """Makes a call of a block, whose clock and local reading are given first. If its line does not
-        fit, makes the call again, which has changed nothing, with a longer buffer."""
-        block.is_called, block.line = False, ""
+        """Makes a call that writes its line, whose clock and local reading are given first. If the line
+        does not fit, makes the call again, which has changed nothing, with a longer buffer."""
+        it.is_called, it.line = False, ""
         if not (0 <= ticket <= MOST and 0 <= given[1] <= MOST):
             raise ValueError(f"{ticket!r} or {given[1]!r} does not fit 64 bits")
         place, line, needed = self.place or self.standing(), self._line, self._needed
-        block.ticket, needed.value = ticket, NO_CALL
-        code = call(place, *given, block, line, len(line) if logged else 0, needed)
+        it.ticket, needed.value = ticket, NO_CALL
+        code = call(place, *given, it, line, len(line) if logged else 0, needed)
         if code == -2:
             line = self._line = ctypes.create_string_buffer(needed.value)
-            code = call(place, *given, block, line, len(line), needed)
+            code = call(place, *given, it, line, len(line), needed)
         length = needed.value
         if code >= 0 and length != NO_CALL:
-            block.is_called = True
+            it.is_called = True
             if length:
-                block.line = line[: length - 1].decode()
+                it.line = line[: length - 1].decode()
         if code != 0:
-            done(code, block.told)
+            done(code, it.told)
 
     def held(self, kind: str) -> Held:
         """Returns the lease of a kind that the task holds, which may have ended."""

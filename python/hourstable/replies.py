@@ -9,8 +9,8 @@ from collections.abc import Mapping
 from typing import Any, NamedTuple
 
 from .calls import Answer
-from .leases import policy_of
-from .library import GrantRead, Phase, Table, read_assignment, read_grant
+from .leases import Held, held_in, policy_of
+from .library import Phase, Table, read_assignment
 
 LIVES = 1 << 32
 NUMBERS = 1 << 64
@@ -18,10 +18,10 @@ Members = Mapping[str, Any]
 
 
 class Granted(NamedTuple):
-    """The answer to a call for a lease: the grant, or the word for why the table refused it."""
+    """The answer to a call for a lease: the lease of its grant, or the word for why the table refused it."""
 
     answer: Answer
-    grant: GrantRead | None
+    lease: Held | None
     refused: str
 
 
@@ -74,7 +74,7 @@ def granted(job: str, answer: Answer) -> Granted:
         return Granted(answer, None, refusal(answer.value()))
     if answer.reading is None:
         raise ValueError("a grant without a reading")
-    return Granted(answer, read_grant(job, answer.body), "")
+    return Granted(answer, held_in(job, answer.body), "")
 
 
 def freed_in(answer: Answer) -> None:

@@ -20,11 +20,11 @@ from collections import deque
 from collections.abc import AsyncIterator, Callable, Mapping, Sequence
 from contextlib import asynccontextmanager
 from functools import partial
-from typing import Any, NamedTuple
+from typing import Any, NamedTuple, NoReturn
 
 from . import replies
 from .caller_metrics import Metrics
-from .calls import TIMEOUT, Control, Rejected, Troubles, Unreachable
+from .calls import TIMEOUT, UNREADABLE, Control, Rejected, Troubles, Unreachable
 from .clock import local_clock as local_clock_of
 from .context import about
 from .kept_log import KeptLog
@@ -550,7 +550,7 @@ class Task:
     def _hear_late(self) -> None:
         while self._late:
             leases, told = self._late.popleft()
-            if leases is self._leases and told.grant is not None:
+            if leases is self._leases and told.lease is not None:
                 self._hear(leases, told)
 
     def _hear(self, leases: Leases, told: replies.Granted) -> float:
@@ -560,15 +560,18 @@ class Task:
             leases.sample(told.answer.sent, told.answer.reading)
         if not leases.started and leases.is_sampled():
             leases.start()
-        if told.grant is None:
+        if told.lease is None:
             return self._refused(told.refused)
-        self._stop_at_evidence(leases, told.answer.body)
+        assert self._policy is not None
         try:
-            leases.hear(told.answer.body)
+            if not leases.hear(told.answer.body, told.lease, self._policy):
+                self._stop_at_evidence(leases)
         except Refused as refused:
+            if refused.code < 0:  # the message is none of a grant
+                self.metrics.wrong_answer(UNREADABLE)
             logger.info("task %d: a grant was not heard: %s", self.task, refused)
             return 0.1
-        self._heard(leases, told.grant.kind)
+        self._heard(leases, told.lease.kind)
         return 0.0
 
     def _refused(self, word: str) -> float:
@@ -641,14 +644,11 @@ class Task:
             except Unreachable as why:
                 await asyncio.sleep(self._wait_after(why, backoff))
 
-    def _stop_at_evidence(self, leases: Leases, grant: bytes) -> None:
-        """Ends the task if a grant shows that a clock breaks the drift that it was given.
+    def _stop_at_evidence(self, leases: Leases) -> NoReturn:
+        """Ends the task, since a grant shows that a clock breaks the drift that it was given.
 
         The leases are released first, at the reading that shows it, so that the log has it.
         """
-        assert self._policy is not None
-        if not leases.shows_evidence(grant, self._policy):
-            return
         self._count_behind()
         for kind in KINDS:
             try:

@@ -10,8 +10,8 @@ from typing import Any
 import pytest
 from aiohttp import web
 
-from hourstable.leases import Leases
-from hourstable.library import boottime_ticks
+from hourstable.leases import Held, Leases
+from hourstable.library import Policy, boottime_ticks
 from hourstable.ranges import Ranges
 from hourstable.task import ClockBroken, Drift, LeaseLost, Task
 from planes import JOB, Plane
@@ -123,12 +123,13 @@ async def test_an_error_that_nobody_expected_begins_another_life(
     """The slicelet hears a lease that the task does not know of, as after an OSError of the log."""
     hear, failures = Leases.hear, [1]
 
-    def fails(leases: Leases, grant: bytes) -> None:
-        hear(leases, grant)
+    def fails(leases: Leases, grant: bytes, lease: Held, policy: Policy) -> bool:
+        is_heard = hear(leases, grant, lease, policy)
         if failures:
             failures.pop()
             leases.held.clear()
             raise OSError("what nobody expected")
+        return is_heard
 
     monkeypatch.setattr(Leases, "hear", fails)
     async with task_of(plane, tmp_path) as task:

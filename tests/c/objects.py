@@ -19,8 +19,8 @@ import handover  # noqa: E402
 from hourstable import library as hourstable  # noqa: E402
 from hourstable.library import (  # noqa: E402
     CALLS, Block, Clerk, HeldLease, JobTerm, KeyHandle, LoadBook, LoadRecord, LoggedCall, Phase, PlanPolicy, Policy,
-    Refused, Slicelet, Table, TableClock, TaskClock, Told, boottime_ticks, clock_evidence, log_line, new_assignment,
-    read_assignment, read_grant, slice_key, slice_of,
+    Receipt, Refused, Slicelet, Table, TableClock, TaskClock, Told, boottime_ticks, clock_evidence, log_line,
+    new_assignment, read_assignment, read_grant, slice_key, slice_of,
 )
 
 U32, U64 = 1 << 32, 1 << 64
@@ -272,6 +272,74 @@ def check_refused_blocks(task: Slicelet) -> None:
         holds(block.line.endswith('"reply":"refused stranger","task":1,"ticket":2}'), f"a stranger: {block.line}")
 
 
+class Receiver:
+    """A task that was started at 5, by a clock that is 6 ahead of the local one."""
+
+    POLICY = Policy(1, 1, 10, 100, 200, 1000, 1000)
+
+    def __init__(self, task: Slicelet) -> None:
+        self.task, self.clock, self.receipt = task, TaskClock(0, 1, 0, oldest=500), Receipt()
+        task.start(1, 5)
+        self.clock.sample(0, 6, 0)
+
+    def receive(self, now: int, ticket: int, grant: bytes, logged: bool) -> tuple[object, str | None]:
+        """Returns the lease, None for evidence, or why the grant is refused, and the line if there is one."""
+        given = (self.clock, now, ticket, self.POLICY, grant, self.receipt, logged)
+        try:
+            made: object = self.task.receive(*given)
+        except Refused as refusal:
+            made = str(refusal)
+        return made, self.receipt.line if self.receipt.is_called else None
+
+    def parts(self, now: int, ticket: int, grant: bytes, logged: bool) -> tuple[object, str | None]:
+        """Returns what `receive` returns, by the calls that it is made of."""
+        made: object
+        kept = bytes(self.clock)
+        try:
+            at = self.clock.read(now)
+            if clock_evidence("", grant, at, self.POLICY):
+                return None, ""
+        except Refused as refusal:
+            if refusal.code < 0:  # no call was made
+                ctypes.memmove(ctypes.byref(self.clock), kept, len(kept))
+            return str(refusal), None
+        call = LoggedCall(ticket, CALLS["hear"], task=2, at=at)
+        try:
+            made = self.task.hear(grant, at)
+        except Refused as refusal:
+            made, call.code = str(refusal), refusal.code
+        call.told = self.task.told
+        return made, log_line("", call, grant) if logged else ""
+
+
+def check_receipts(logged: bool) -> None:
+    """GRANT was made at 40 of the table, by a policy with a skew of 10."""
+    old, late = GRANT, BRIDGE.replace(b'"ends":200', b'"ends":60')
+    other_life = BRIDGE.replace(b'"life":1', b'"life":2')
+    with Slicelet("", 2) as one, Slicelet("", 2) as other:
+        receiver, parts = Receiver(one), Receiver(other)
+        one._line = ctypes.create_string_buffer(1)
+        for now, grant, told in [
+            (23, GRANT, None), (24, GRANT, ("guard", 3, 7, 130, 0)), (25, old, "old 7"), (60, late, "too-late"),
+            (61, other_life, "other-life"), (60, BRIDGE, "clock-back"), (62, b"{", "not-json"),
+            (63, BRIDGE, ("bridge", 4, 8, 200, 0)), (900, BRIDGE, "too-old"),
+        ]:
+            what = f"a grant at {now}"
+            made = receiver.receive(now, 70 + now, grant, logged)
+            holds(made[0] == told, f"{what} is {told}: {made}")
+            wanted = parts.parts(now, 70 + now, grant, logged)
+            holds(made == wanted, f"{what} is received as by its parts, {wanted}: {made}")
+            holds(numbers_of(receiver.clock) == numbers_of(parts.clock), f"{what} leaves the clock as its parts do")
+            if receiver.receipt.is_called:
+                holds(receiver.receipt.at == now + 6, f"{what} has its reading")
+        holds(one.permitted(69) == other.permitted(69) == [(0, 1 << 63)], "what was received is held")
+        receiver.clock = TaskClock(0, 1, 0, 9)
+        holds(receiver.receive(64, 1, GRANT, logged) == ("no-sample", None), "a grant before a sample is no call")
+        for number in (U64, -1, None):
+            raises((ValueError, TypeError), f"a grant at {number!r}", one.receive, receiver.clock, number, 1,
+                   parts.POLICY, GRANT, receiver.receipt)
+
+
 def check_assignments() -> None:
     holds(new_assignment("shop", 1, [(0, [1])]) == FIRST, "the message of an assignment")
     holds(read_assignment("shop", FIRST) == (1, [(0, [1])]), "what an assignment says")
@@ -417,6 +485,8 @@ check_replies()
 check_places()
 check_leases()
 check_blocks()
+check_receipts(True)
+check_receipts(False)
 check_assignments()
 check_task_clocks()
 check_table_clocks()
