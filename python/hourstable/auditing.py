@@ -53,15 +53,16 @@ def gaps_of(folder: Path, above: int = 0) -> list[Gap]:
     audit saw all.
 
     Of two gaps that begin with one call the later one counts: the disk had not taken what came then. A gap whose
-    first call is in a log is none: a control plane has logged what its store had.
+    first and last calls are in a log is none: a control plane has logged what its store had of one write.
     """
     found = {gap.first: gap for gap in _gaps_in(folder) if not (gap.removed and gap.last < above)}
+    wanted = {ticket for gap in found.values() for ticket in (gap.first, gap.last)}
     there: set[int] = set()
     if found:
         for path in logs.files_of(folder):
             with open(path, "rb") as lines:
-                there.update(ticket for line in lines if (ticket := logs.ticket_of(line, 0)) in found)
-    return [gap for ticket, gap in found.items() if ticket not in there]
+                there.update(ticket for line in lines if (ticket := logs.ticket_of(line, 0)) in wanted)
+    return [gap for gap in found.values() if not {gap.first, gap.last} <= there]
 
 
 def _gaps_in(folder: Path) -> Iterator[Gap]:

@@ -68,8 +68,10 @@ def _control_words(words: argparse.ArgumentParser) -> None:
     words.add_argument("--store-deadline", type=float, default=DEADLINE, metavar="SECONDS",
                        help=f"in which a call of the store is answered, or fails ({DEADLINE:g})")
     words.add_argument("--listen", required=True, metavar="HOST:PORT")
-    words.add_argument("--logs", required=True, metavar="FOLDER",
-                       help="for the logs of all jobs")
+    logged = words.add_mutually_exclusive_group(required=True)
+    logged.add_argument("--logs", metavar="FOLDER", type=Path, help="for the logs of all jobs")
+    logged.add_argument("--no-logs", action="store_const", const=None, dest="logs",
+                        help="keep no logs: what this plane does cannot be audited")
     words.add_argument("--keep-logs", metavar="DAYS", type=int,
                        help="remove its logs after so many days, audited or not (never)")
     words.add_argument("--state", metavar="FOLDER", type=Path,
@@ -223,7 +225,7 @@ def options_of(chosen: argparse.Namespace) -> Options:
         grants=chosen.grants, burst=2 * chosen.grants,
     )
     return Options(
-        store_in(chosen), Path(chosen.logs), host.strip("[]"), int(port),
+        store_in(chosen), chosen.logs, host.strip("[]"), int(port),
         process=process_number(chosen.process), shared=chosen.shared, standby=chosen.standby,
         assigner=chosen.assigner,
         secrets=secrets_in(chosen.secret_file) if chosen.secret_file else [],

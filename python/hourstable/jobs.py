@@ -5,6 +5,9 @@ each call in turn its ticket is drawn and the library makes the call. What all o
 stored by one write, together with their lines; the lines go to the log; and only then the answers
 leave. If the store does not take it, the table is dropped and all these answers with it. The next
 call restores a table from what is stored, as after a restart.
+
+If the disk does not take the lines, the log stops and the job goes on. Once the disk takes lines again, the log says
+what is missing, and the table is restored: so no later line rests on one that is not there.
 """
 
 import asyncio
@@ -14,11 +17,13 @@ import os
 from collections import OrderedDict, deque
 from collections.abc import Awaitable, Callable, Sequence
 from dataclasses import dataclass, field
+from functools import partial
 from pathlib import Path
 from typing import Any, Generic, NamedTuple, TypeVar
 
 from hourstable import library, logs
 from hourstable.clock import JobClock
+from hourstable.kept_log import KeptLog
 from hourstable.library import Policy, Refused, Table
 from hourstable.standstill import Standstill
 from hourstable.store import Conflict, Damaged, Life, NoSuchJob, Store, Stored, StoreFailed
@@ -153,7 +158,7 @@ class Settings:
     """How a control plane keeps its jobs. `local` is the clock that the tables' clocks go by;
     `system` has its other clocks and its files."""
 
-    logs: Path
+    logs: Path | None  # the folder of logs; None: no log is kept
     process: int
     shared: bool
     standby: float = 2.0  # seconds for which a store stands still before another plane takes over
@@ -179,6 +184,9 @@ class Counters:
     def stored(self, what: str, seconds: float, failed: bool) -> None:
         """The store was asked."""
 
+    def log_missing(self, job: str, lines: int) -> None:
+        """The log of the job did not take lines."""
+
     def internal_error(self, where: str) -> None:
         """Something failed that nobody expected."""
 
@@ -196,7 +204,7 @@ class Job:
         self._waiting: deque[Waiting] = deque()
         self._working: asyncio.Task[None] | None = None  # while calls wait
         self._held: Held | None = None
-        self._log: logs.Log | None = None
+        self._log: KeptLog | logs.NoLog | None = None
         self._seen = Standstill(self._now, settings.standby / 4)
         self._wakes: set[asyncio.Future[None]] = set()  # those who wait for another view
         self._rows: list[library.Row] = []
@@ -213,6 +221,8 @@ class Job:
 
     def try_log(self) -> None:
         """Raises OSError if the log of the job cannot be written."""
+        if self.settings.logs is None:
+            return
         folder = make_folder(logs.folder_of(self.settings.logs, self.name))
         path, system = folder / f".control-{self.settings.process}.tried", self.settings.system
         file = system.open(path, os.O_WRONLY | os.O_CREAT | os.O_CLOEXEC, 0o600)
@@ -259,12 +269,18 @@ class Job:
         self._seen.saw(stored.version, self._now() - begun)
         if self.policy is None:
             policy, members = self._policy_in(stored)
-            folder = logs.folder_of(self.settings.logs, self.name)
-            given = f"control-{self.settings.process}", logs.job_line(members)
-            settings = self.settings
-            self._log = logs.Log(folder, *given, keep=settings.keep_logs, system=settings.system)
+            self._log = self._log_of(logs.job_line(members))
             self.policy, self.members = policy, members
         return stored
+
+    def _log_of(self, job: str) -> KeptLog | logs.NoLog:
+        settings = self.settings
+        if settings.logs is None:
+            return logs.NoLog()
+        folder, name = logs.folder_of(settings.logs, self.name), f"control-{settings.process}"
+        opens = partial(logs.Log, folder, name, job, keep=settings.keep_logs, system=settings.system)
+        missing = partial(self._counters.log_missing, self.name)
+        return KeptLog(opens, f"job {self.name}", log, missing, self._now, must_open=True)
 
     def _policy_in(self, stored: Stored) -> tuple[Policy, dict[str, Any]]:
         try:
@@ -511,6 +527,7 @@ class Job:
         error: Exception
         begun = self._now()
         try:
+            await self._log_again()
             held = await self._hold()
             at = await held.clock.wait()
             played = self._play(held, together, at)
@@ -536,6 +553,14 @@ class Job:
         self.drop()  # the table may have what the store has not
         for one in together:
             one.fail(error)
+
+    async def _log_again(self) -> None:
+        """Goes on with a log that had stopped, if the disk takes lines again. The table is dropped: the lines after
+        the gap begin with what is restored."""
+        if self._log is not None and self._log.is_stopped and self._log.is_ready():
+            await self._settle()
+            self.drop()
+            self._log.go_on()
 
     def _all_waiting(self) -> list[Waiting]:
         """Takes all calls that wait."""
@@ -595,13 +620,17 @@ class Job:
         The reading of refused calls is stored as that of a grant that nobody gets, since a table
         keeps the readings of accepted calls alone. This cannot be done before an assignment is
         proposed, nor when all numbers are spent.
+
+        While the log is stopped each call is stored: of the lines that are missing the last ones are then those of
+        the store, which the next plane logs.
         """
+        assert self._log is not None
         if self.settings.shared and is_done:
             return held.table.kept()
         grants, ticks = self.settings.grants_ahead, self.settings.ticks_ahead
         if self.settings.shared:
             grants = ticks = 0
-        is_covered = at <= held.last and not self.settings.shared
+        is_covered = at <= held.last and not (self.settings.shared or self._log.is_stopped)
         if not is_covered and not is_done:
             grants, ticks = max(grants, 1), max(ticks, at - held.accepted)
         kept = held.table.save(held.saved if is_covered else b"", grants, ticks)
@@ -620,14 +649,17 @@ class Job:
         """Stores just what is kept, if more was saved ahead: the next process then waits for no
         reading, and no number is lost."""
         async with self._lock:
-            held = self._held
-            if held is None or held.line is None or held.at >= held.last:
-                return
-            kept = held.table.kept()
-            if held.at > held.accepted:
-                kept = held.table.save(b"", 1, held.at - held.accepted) or kept
-            if last_in(kept) >= held.at:
-                await self._swap(held, kept, held.at, [held.line])
+            await self._settle()
+
+    async def _settle(self) -> None:
+        held = self._held
+        if held is None or held.line is None or held.at >= held.last:
+            return
+        kept = held.table.kept()
+        if held.at > held.accepted:
+            kept = held.table.save(b"", 1, held.at - held.accepted) or kept
+        if last_in(kept) >= held.at:
+            await self._swap(held, kept, held.at, [held.line])
 
     def reading(self) -> int | None:
         """Returns the reading of the table's clock, to show it; None if another plane holds the

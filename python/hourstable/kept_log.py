@@ -1,17 +1,19 @@
 """A log that may stop while its process goes on, as on a full disk.
 
 Lines that the disk does not take are left out, and so are all that follow, until the process begins anew with what
-the lines are about: a task with another life, a clerk with nothing learnt. The log then has a line that says what is
-missing, which `hourstable-service audit` tells.
+the lines are about: a task with another life, a clerk with nothing learnt, a plane with a table that it restores. The
+log then has a line that says what is missing, which `hourstable-service audit` tells.
 """
 
+import errno
 import json
 import logging
-from collections.abc import Callable
+from collections.abc import Callable, Sequence
 
 from .logs import Log, gap_line
 
 AGAIN = 1.0  # seconds after which a log that stopped is tried again
+FULL = (errno.ENOSPC, errno.EDQUOT, errno.EFBIG, errno.EROFS, errno.EIO)  # of a disk that takes nothing
 Opens = Callable[[], Log]
 
 
@@ -19,14 +21,15 @@ class KeptLog:
     """A log of `opens`, which returns it open. `count(lines)` is told of lines that are left out, and `now` returns
     seconds that never fall.
 
-    Raises ValueError if the file of today is of another job. A disk that takes nothing is no error.
+    Raises ValueError if the file of today is of another job. A disk that takes nothing is no error; with `must_open`
+    each other reason for which the log cannot be opened is one, and is raised.
     """
 
     is_kept = True  # whether lines that are appended are of use to anybody
 
     def __init__(
         self, opens: Opens, name: str, log: logging.Logger, count: Callable[[int], object],
-        now: Callable[[], float],
+        now: Callable[[], float], must_open: bool = False,
     ) -> None:
         self._opens, self._name, self._told = opens, name, log
         self._count, self._now = count, now
@@ -38,6 +41,8 @@ class KeptLog:
         try:
             self._log = opens()
         except OSError as why:
+            if must_open and why.errno not in FULL:
+                raise
             self._stop(why)
 
     @property
@@ -55,6 +60,10 @@ class KeptLog:
         except (OSError, ValueError) as why:
             self._stop(why)
             self._miss(lines)
+
+    def lacking(self, lines: Sequence[str]) -> list[str]:
+        """Returns those of the lines that are not in the log, as `Log.lacking` does, or all while it is stopped."""
+        return list(lines) if self._log is None else self._log.lacking(lines)
 
     def is_ready(self) -> bool:
         """Whether a log that has stopped may go on, which it then does with `go_on`. It looks once in a while."""
@@ -83,6 +92,8 @@ class KeptLog:
     def close(self) -> None:
         """Closes the file, with a line of what is missing if the disk takes it."""
         try:
+            if self._missing and self._log is None:
+                self._log = self._opens()
             self._tell_gap()
         except (OSError, ValueError) as why:
             self._told.warning("%s: %d lines are missing at the end of the log: %s", self._name, self._missing, why)

@@ -220,6 +220,10 @@ class NoLog:
     def append(self, *lines: str) -> None:
         """Does nothing."""
 
+    def lacking(self, lines: Sequence[str]) -> list[str]:
+        """Returns none: no line is missed."""
+        return []
+
     def is_ready(self) -> bool:
         return False
 

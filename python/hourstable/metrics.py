@@ -64,6 +64,10 @@ class Metrics(Counters):
             "hourstable_tickets_left_out", "Tickets and real times beyond the year 6429, which nothing follows.",
             registry=registry,
         )
+        self.log_lines = Counter(
+            "hourstable_log_lines_missing", "Lines that the log of a job did not take, as on a full disk.",
+            ["job"], registry=registry,
+        )
         self.connections = Gauge(
             "hourstable_open_connections", "Open connections.", registry=registry
         )
@@ -91,6 +95,9 @@ class Metrics(Counters):
         self.store_seconds.labels(what).observe(seconds)
         if failed:
             self.store_failures.labels(what).inc()
+
+    def log_missing(self, job: str, lines: int) -> None:
+        self.log_lines.labels(job).inc(lines)
 
     def turned(self, limit: str) -> None:
         """Counts a connection that was turned away."""

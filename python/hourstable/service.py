@@ -31,7 +31,7 @@ class Options:
     """What a control plane is started with. `docs/OPERATIONS.md` says what each word of the command does."""
 
     store: str = field(repr=False)  # the URL, which may have a password
-    logs: Path
+    logs: Path | None  # the folder of logs; None: no log is kept, and `state` or $STATE_DIRECTORY is set
     host: str = "127.0.0.1"
     port: int = 0  # 0: any
     process: int = 0  # its number among all planes and assigners, 0 to 63
@@ -87,9 +87,9 @@ class ControlPlane:
         process = process_number(chosen.process)
         store = await self._opens(chosen.store, chosen.store_deadline, system)
         ending.push_async_callback(store.close)
-        make_folder(chosen.logs)
         state = state_folder(chosen.state, chosen.logs)
-        tickets = Tickets(process, kept_in(state, f"control-{process}.ticket", chosen.logs), system=system)
+        folders = [state] if chosen.logs is None else [make_folder(chosen.logs), state]
+        tickets = Tickets(process, kept_in(state, f"control-{process}.ticket", folders[0]), system=system)
         ending.callback(tickets.close)
         local = self._local_clock or local_clock_of(system=system)
         shared = store.several if chosen.shared is None else chosen.shared
@@ -97,7 +97,7 @@ class ControlPlane:
             chosen.logs, process, shared, chosen.standby, local=local, system=system, keep_logs=chosen.keep_logs
         )
         plane = self.plane = Plane(store, settings, tickets, chosen.limits, chosen.secrets)
-        plane.readiness.folders = [chosen.logs, state]
+        plane.readiness.folders = folders
         plane.record = Record(state / f"record-{process}.ndjson", system)
         ending.push_async_callback(plane.stop)
         port = await plane.start(chosen.host, chosen.port, chosen.tls, chosen.poll)

@@ -10,11 +10,17 @@ from hourstable.system import make_folder
 FOLDER = "STATE_DIRECTORY"  # the variable by which systemd names the folder of a unit's state
 
 
-def state_folder(given: str | os.PathLike[str] | None, logs: str | os.PathLike[str]) -> Path:
+def state_folder(given: str | os.PathLike[str] | None, logs: str | os.PathLike[str] | None) -> Path:
     """Returns the folder of state of a process, and makes it: the one that is given, or else that of systemd, or else
-    the one beside its logs, with the ending `.state`. Raises OSError, which says how to name another one."""
-    beside = Path(logs).absolute()
-    folder = Path(given or os.environ.get(FOLDER) or beside.with_name(f"{beside.name}.state"))
+    the one beside its logs, with the ending `.state`. Raises ValueError if there is none of them, and OSError, which
+    says how to name another one."""
+    chosen = given or os.environ.get(FOLDER)
+    if chosen:
+        folder = Path(chosen)
+    elif logs is not None:
+        folder = Path(logs).absolute().with_name(f"{Path(logs).absolute().name}.state")
+    else:
+        raise ValueError("a control plane without logs needs a folder for its state (--state)")
     try:
         return make_folder(folder)
     except OSError as error:

@@ -87,12 +87,12 @@ def assignment(generation: int, slices: list[Any], job: str = "shop") -> bytes:
 
 @asynccontextmanager
 async def running(
-    store: Store, folder: Path, process: int = 0, shared: bool = False, standby: float = 0.3,
+    store: Store, folder: Path | None, process: int = 0, shared: bool = False, standby: float = 0.3,
     limits: Limits | None = None, secrets: list[str] | None = None, ahead: tuple[int, int] = (0, 0),
-    system: System = SYSTEM, poll: float = 0.05,
+    system: System = SYSTEM, poll: float = 0.05, state: Path | None = None,
 ) -> AsyncIterator[tuple[Plane, Caller]]:
-    """A plane that listens, and a caller of it."""
-    state = make_folder(folder.parent / "state")
+    """A plane that listens, and a caller of it. With no folder of logs it has one for its state."""
+    state = make_folder(state or folder.parent / "state")  # type: ignore[union-attr]
     tickets = Tickets(process, state / f"control-{process}.ticket", system=system)
     settings = Settings(folder, process, shared, standby, *ahead, local=local_clock(), system=system)
     generous = Limits(grants=1e6, burst=1e6)

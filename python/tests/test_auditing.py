@@ -22,6 +22,7 @@ from hourstable.service import ControlPlane, Options  # noqa: E402
 from hourstable.system import System  # noqa: E402
 from hourstable.task import Denied, Task  # noqa: E402
 from serving import POLICY  # noqa: E402
+from waits import counted  # noqa: E402
 
 DAY = 86_400_000_000_000
 Said = pytest.CaptureFixture[str]
@@ -130,8 +131,8 @@ async def test_blocks_are_thinned_as_a_whole(tmp_path: Path, capfd: Said, sample
     assert capfd.readouterr().out.startswith("audit one\n")
 
 
-async def test_a_plane_whose_disk_was_full_logs_what_its_store_has(tmp_path: Path, capfd: Said) -> None:
-    """A call that is stored and not logged is logged when the table is restored. So nothing is missing."""
+async def test_a_plane_whose_disk_is_full_serves_on(tmp_path: Path, capfd: Said) -> None:
+    """The audit names what is missing, and does not say that the rest is one run with what is gone."""
     program, system = needed.program(), Earlier()
     options = Options(
         f"sqlite:{tmp_path}/jobs", tmp_path / "logs", rules=Hysteresis(settle=0.1, rest=1.0), shared=True
@@ -140,15 +141,20 @@ async def test_a_plane_whose_disk_was_full_logs_what_its_store_has(tmp_path: Pat
         url, given = f"http://127.0.0.1:{plane.port}", {"logs": tmp_path / "logs", "policy": POLICY}
         async with Task(url, "shop", 1, **given) as task:  # type: ignore[arg-type]
             await serve(task)
-            system.is_full = True
-            await until(lambda: plane.plane is not None and not plane.plane.jobs["shop"].job.is_held)
-            system.is_full = False
-            heard = task.renewed.times
-            await until(lambda: task.renewed.times >= heard + 2)
-            await serve(task)
-    assert gaps_of(tmp_path / "logs/shop") == []
-    assert Audit(tmp_path / "logs/shop", str(program)).run() == 0
-    assert capfd.readouterr().out.startswith("audit one\n")
+            for is_full in (True, False):
+                system.is_full = is_full
+                heard = task.renewed.times
+                await until(lambda: task.renewed.times >= heard + 2)
+                await serve(task)
+            unreachable = counted(task.metrics.text(), "hourstable_control_unreachable_total")
+        assert plane.plane is not None
+        missing = counted(plane.plane.metrics.text([]), "hourstable_log_lines_missing_total", job="shop")
+    assert unreachable == 0
+    gap, = gaps_of(tmp_path / "logs/shop")
+    assert gap.file.startswith("control-0.") and gap.missing == missing >= 2
+    assert Audit(tmp_path / "logs/shop", str(program)).run() == 1
+    said = capfd.readouterr().out
+    assert "audit one" not in said and said.splitlines()[-1] == f"gap {gap}"
 
 
 async def test_what_a_plane_looks_for_in_old_logs_keeps_up_no_other_call(

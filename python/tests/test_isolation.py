@@ -20,7 +20,10 @@ import needed
 needed.library()
 
 from hourstable import logs  # noqa: E402
+from hourstable.auditing import gaps_of  # noqa: E402
+from hourstable.command import options_of, parser  # noqa: E402
 from hourstable.failures import Failures  # noqa: E402
+from hourstable.kept_log import AGAIN  # noqa: E402
 from hourstable.limits import Limits  # noqa: E402
 from hourstable.service import ControlPlane  # noqa: E402
 from hourstable.state import state_folder  # noqa: E402
@@ -249,9 +252,12 @@ class Full(System):
 
     def __init__(self) -> None:
         self.is_full = self.is_broken = False
+        self.spares = 0  # lines of gaps for which a full disk has room
 
     def write(self, file: int, data: bytes) -> int:
-        if self.is_full:
+        if self.is_full and data.startswith(logs.GAP) and self.spares > 0:
+            self.spares -= 1
+        elif self.is_full:
             raise OSError(errno.ENOSPC, os.strerror(errno.ENOSPC))
         return os.write(file, data)
 
@@ -260,35 +266,92 @@ class Full(System):
             raise OSError(errno.EIO, os.strerror(errno.EIO))
 
 
-async def test_calls_on_a_full_disk(file: Store, tmp_path: Path) -> None:
-    """They are 503 with the seconds after which to ask again, what needs no disk is answered, and no line of the log
-    is missing afterwards."""
+@pytest.mark.parametrize("ahead", [(0, 0), (256, 60_000)])
+async def test_calls_on_a_full_disk(file: Store, tmp_path: Path, ahead: tuple[int, int]) -> None:
+    """All are answered, and stored before; the log lacks their lines, says so, and goes on with a restored table."""
     system = Full()
-    async with running(file, tmp_path / "logs", system=system) as (_, caller):
+    async with running(file, tmp_path / "logs", ahead=ahead, system=system) as (_, caller):
         await begun(caller)
         system.is_full = True
-        for told in (await caller.grant(1), await caller.grant(2), await caller.post("take", {"assigner": 2})):
-            assert (told.status, told.json["refused"], told.headers["Retry-After"]) == (503, "disk", "1")
+        assert [(await caller.grant(1)).status for _ in range(3)] == [200, 200, 200]
+        assert (await caller.post("take", {"assigner": 2})).status == 409
         assert (await caller.post("tasks/1/life")).json["life"] == 1
-        assert (await caller.get("/phase")).json["committed"] == 1
-        assert "No space left" in (await failed(caller))["shop"]["why"]
+        assert await failed(caller) == {}
+        assert await metric(caller, 'hourstable_log_lines_missing_total{job="shop"}') == 4
+        granted = granted_in(await file.load("shop"))
         system.is_full = False
+        await asyncio.sleep(AGAIN)
+        assert (await caller.grant(1)).status == 200
+        assert await internal_errors(caller) == 0
+    calls = [it["do"] for it in lines_of(tmp_path / "logs")]
+    assert calls[-2:] == ["restore", "grant"], calls
+    gap, = gaps_of(tmp_path / "logs/shop")
+    assert gap.missing == 4 and granted >= 3
+    between = [it for it in lines_of(tmp_path / "logs") if gap.first <= it["ticket"] <= gap.last]
+    assert [it["do"] for it in between] == ["take"]  # of the last write, which the store had
+
+
+async def test_a_plane_that_is_killed_on_a_full_disk(file: Store, tmp_path: Path) -> None:
+    """The next process logs what the store has of the last write, and the gap stays named."""
+    system, folder = Full(), tmp_path / "logs/shop"
+    async with running(file, tmp_path / "logs", ahead=(256, 60_000), system=system) as (_, caller):
+        await begun(caller)
+        system.is_full, system.spares = True, 1  # the line for which there is room
+        for _ in range(3):
+            assert (await caller.grant(1)).status == 200
+    assert [(gap.missing, gap.file) for gap in gaps_of(folder)] == [(1, logs.files_of(folder)[0].name)]
+    async with running(file, tmp_path / "logs", ahead=(256, 60_000)) as (_, caller):
+        assert (await caller.grant(1)).status == 200
+    assert len(gaps_of(folder)) == 1
+    assert [it["do"] for it in lines_of(tmp_path / "logs")][-3:] == ["grant", "restore", "grant"]
+
+
+async def test_a_plane_starts_on_a_full_disk(file: Store, tmp_path: Path) -> None:
+    system = Full()
+    async with running(file, tmp_path / "elsewhere") as (_, caller):
+        await begun(caller)
+    system.is_full = True
+    async with running(file, tmp_path / "logs", system=system) as (_, caller):
         assert (await caller.grant(1)).status == 200
         assert await failed(caller) == {}
-        assert await internal_errors(caller) == 0
-    stored = await file.load("shop")
+        assert await metric(caller, 'hourstable_log_lines_missing_total{job="shop"}') >= 1
+
+
+async def test_a_plane_without_logs(file: Store, tmp_path: Path) -> None:
+    async with running(file, None, state=tmp_path / "state") as (_, caller):
+        await begun(caller)
+        assert (await caller.grant(1)).status == 200
+    async with running(file, None, state=tmp_path / "state") as (_, caller):  # and takes it over again
+        assert (await caller.grant(1)).status == 200
+        assert await metric(caller, 'hourstable_log_lines_missing_total{job="shop"}') == 0
+    assert list(tmp_path.rglob("*.jsonl")) == []
+
+
+async def test_the_options_of_a_plane_without_logs(tmp_path: Path, monkeypatch: pytest.MonkeyPatch) -> None:
+    monkeypatch.delenv("STATE_DIRECTORY", raising=False)
+    words = ["control", "--store", f"sqlite:{tmp_path}/jobs", "--listen", "127.0.0.1:0", "--no-logs"]
+    with pytest.raises(ValueError, match="--state"):
+        await ControlPlane(options_of(parser().parse_args(words))).start()
+    async with ControlPlane(options_of(parser().parse_args([*words, "--state", str(tmp_path / "state")]))) as plane:
+        assert plane.plane is not None and plane.plane.settings.logs is None
+    with pytest.raises(SystemExit):
+        parser().parse_args(words[:-1])
+
+
+def granted_in(stored: Stored | None) -> int:
+    """Returns how many grants are stored as made."""
     assert stored is not None
-    numbers = [int(it["reply"].split()[1]) for it in lines_of(tmp_path / "logs") if it["do"] == "grant"]
-    assert numbers == list(range(1, len(numbers) + 1))
-    assert len(numbers) == int(json.loads(stored.kept)["value"]["granted"])
+    return int(json.loads(stored.kept)["value"]["granted"])
 
 
 async def test_a_failure_whose_callers_went_to_another_plane_lapses(file: Store, tmp_path: Path) -> None:
     system, limits = Full(), Limits(patience=0.5)
-    async with running(file, tmp_path / "logs", limits=limits, system=system) as (_, caller):
+    async with running(file, tmp_path / "logs", limits=limits, system=system) as (plane, caller):
         await begun(caller)
-        system.is_full = True
+        system.is_broken = True
+        plane.tickets.observe(plane.tickets.draw() + (60_000 << 16))  # the next draw is to be kept
         assert (await caller.grant(1)).status == 503
+        system.is_broken = False
         assert list(await failed(caller)) == ["shop"]
 
         async def is_well() -> bool:
