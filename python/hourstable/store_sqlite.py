@@ -45,8 +45,7 @@ class Connected:
 
     def _opened(self) -> sqlite3.Connection:
         if self._connection is None:
-            # It is for the user of the process alone, and so are the files that SQLite makes beside it.
-            os.close(os.open(self._path, os.O_RDWR | os.O_CREAT | os.O_CLOEXEC, 0o600))
+            _make_file(self._path)
             self._connection = sqlite3.connect(
                 self._path, timeout=self._patience, isolation_level=None, check_same_thread=False
             )
@@ -176,6 +175,14 @@ def _tell(writes: list[Write], outcomes: list[int | Exception]) -> None:
             write.answer.set_exception(outcome)
         else:
             write.answer.set_result(outcome)
+
+
+def _make_file(path: str) -> None:
+    """Makes the file for the user of the process alone, and so those that SQLite makes beside it. A file that is there
+    is not opened: its close would end all locks of this process on it (fcntl(2)), and with them those of SQLite, which
+    keep other programs that open and close the file from removing its journal."""
+    with suppress(FileExistsError):
+        os.close(os.open(path, os.O_RDWR | os.O_CREAT | os.O_EXCL | os.O_CLOEXEC, 0o600))
 
 
 def _make_table(connection: sqlite3.Connection) -> None:

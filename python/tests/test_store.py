@@ -271,6 +271,22 @@ async def test_a_file_that_is_no_database(tmp_path: Path) -> None:
         await open_store(f"sqlite:{path}")
 
 
+async def test_another_program_that_opens_and_closes_the_file(file: Store, tmp_path: Path) -> None:
+    """As a copy that an operator makes. It must not take itself for the last user, and remove the journal."""
+    program = "import sqlite3, sys\nprint(sqlite3.connect(sys.argv[1]).execute('SELECT version FROM jobs').fetchall())"
+
+    async def seen() -> str:
+        words = [sys.executable, "-c", program, f"{tmp_path}/jobs.sqlite"]
+        process = await asyncio.create_subprocess_exec(*words, stdout=subprocess.PIPE)
+        return (await process.communicate())[0].decode().strip()
+
+    version = await file.create("shop", POLICY, b"{}")
+    assert await file.version("shop") == version  # both connections are open
+    for _ in range(3):
+        assert await seen() == f"[({version},)]"
+        version = await file.swap("shop", version, b"{}", "line")
+
+
 async def test_writes_of_sqlite_are_synced(file: Store) -> None:
     assert isinstance(file, SqliteStore)
     asked = "PRAGMA synchronous"
