@@ -459,7 +459,7 @@ class Job:
             self.tickets.draw(), "restore", f"restored generation {generation} grace {deadline}",
             last=last, granted=granted, deadline=deadline,
         )
-        given = self.name, stored.version, stored.kept, Row(row.ahead, [line]).text()
+        given = self.name, stored.version, stored.kept, Row(row.ahead, [*self._log.gap(), line]).text()
         version = await self.ask("swap", self._store.swap, *given)
         self._log.append(line)
         self.grace = deadline
@@ -597,13 +597,16 @@ class Job:
         """Stores calls that were played, logs them, and answers them."""
         assert self._log is not None
         lines = [one.line for one in played]
-        kept = self._to_store(held, at, any(one.made.refusal is None for one in played))
+        is_done = any(one.made.refusal is None for one in played)
+        kept = self._to_store(held, at, is_done)
         if kept is not None:
             await self._swap(held, kept, at, lines)
         is_used = at <= held.last  # else all were refused, and the reading is not stored
         if is_used:
             self._log.append(*lines)
             held.line, held.at = lines[-1], at
+            if kept is None and self._log.is_stopped:  # it is just now
+                await self._swap(held, self._to_store(held, at, is_done) or held.saved, at, lines)
         for waiting, made, _ in played:
             if made.refusal is None:
                 waiting.call.done(self, made.result)
@@ -621,8 +624,8 @@ class Job:
         keeps the readings of accepted calls alone. This cannot be done before an assignment is
         proposed, nor when all numbers are spent.
 
-        While the log is stopped each call is stored: of the lines that are missing the last ones are then those of
-        the store, which the next plane logs.
+        While the log is stopped each call is stored: then nothing is missing but what the row has, or says that is
+        missing, and the next plane logs both.
         """
         assert self._log is not None
         if self.settings.shared and is_done:
@@ -637,9 +640,11 @@ class Job:
         return None if kept is None or not (is_done or last_in(kept) >= at) else kept
 
     async def _swap(self, held: Held, kept: bytes, at: int, lines: Sequence[str]) -> None:
-        """Stores kept values with the lines of the last calls, which were made at a reading."""
+        """Stores kept values with the lines of the last calls, which were made at a reading, after the line of what
+        the log lacks before them."""
+        assert self._log is not None
         last = last_in(kept)
-        text = Row(max(0, last - at), lines).text()
+        text = Row(max(0, last - at), [*self._log.gap(), *lines]).text()
         held.version = await self.ask(
             "swap", self._store.swap, self.name, held.version, kept, text
         )

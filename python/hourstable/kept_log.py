@@ -6,11 +6,10 @@ log then has a line that says what is missing, which `hourstable-service audit` 
 """
 
 import errno
-import json
 import logging
 from collections.abc import Callable, Sequence
 
-from .logs import Log, gap_line
+from .logs import Log, calls_in, gap_line
 
 AGAIN = 1.0  # seconds after which a log that stopped is tried again
 FULL = (errno.ENOSPC, errno.EDQUOT, errno.EFBIG, errno.EROFS, errno.EIO)  # of a disk that takes nothing
@@ -111,15 +110,19 @@ class KeptLog:
         if log is not None:
             log.close()
 
-    def _miss(self, lines: tuple[str, ...]) -> None:
-        tickets = [int(json.loads(line)["ticket"]) for line in lines]
-        self._first = self._first or tickets[0]
-        self._last = tickets[-1]
-        self._missing += len(lines)
-        self._count(len(lines))
+    def gap(self) -> list[str]:
+        """Returns the line that says what is missing so far, none if nothing is."""
+        return [gap_line(self._missing, self._first, self._last)] if self._missing else []
+
+    def _miss(self, lines: Sequence[str]) -> None:
+        calls = calls_in(lines)
+        self._first = self._first or calls.first
+        self._last = calls.last
+        self._missing += calls.lines
+        self._count(calls.lines)
 
     def _tell_gap(self) -> None:
         """Writes what is missing so far. Raises OSError and ValueError."""
         if self._missing and self._log is not None:
-            self._log.append(gap_line(self._missing, self._first, self._last))
+            self._log.append(*self.gap())
             self._missing = self._first = self._last = 0

@@ -20,7 +20,7 @@ import time
 from collections.abc import Callable, Iterator, Mapping, Sequence
 from functools import partial
 from pathlib import Path
-from typing import Any
+from typing import Any, NamedTuple
 
 from hourstable.segments import GrowingFile
 from hourstable.system import SYSTEM, System, make_folder
@@ -166,10 +166,9 @@ class Log:
         return self._file
 
     def _tell_gap(self, lines: Sequence[str]) -> None:
-        tickets = [ticket_of(line.encode(), 0) for line in lines]
         try:
             if self._file is not None:
-                self._file.append_spare(_bytes_of(gap_line(len(lines), tickets[0], tickets[-1])))
+                self._file.append_spare(_bytes_of(gap_line(*calls_in(lines))))
         except OSError:
             pass  # who goes on with the log may tell it then
 
@@ -224,6 +223,10 @@ class NoLog:
         """Returns none: no line is missed."""
         return []
 
+    def gap(self) -> list[str]:
+        """Returns none: no line is missed."""
+        return []
+
     def is_ready(self) -> bool:
         return False
 
@@ -238,6 +241,27 @@ def gap_line(lines: int, first: int, last: int, **members: str) -> str:
     """Returns the line of a log that says how many lines it lacks, and the tickets of the first and
     the last of them. With the member `file` it is all of a file that was removed."""
     return COMPACT.encode({"gap": {"lines": lines, "from": first, "until": last, **members}})
+
+
+class Calls(NamedTuple):
+    """How many calls there are, and the tickets of the first and the last of them."""
+
+    lines: int
+    first: int
+    last: int
+
+
+def calls_in(lines: Sequence[str]) -> Calls:
+    """Returns the calls of lines, one at least, and those that a line of a gap says to be missing."""
+    found = [_calls_of(json.loads(line)) for line in lines]
+    return Calls(sum(it.lines for it in found), found[0].first, found[-1].last)
+
+
+def _calls_of(value: Mapping[str, Any]) -> Calls:
+    if "gap" in value:
+        gap = value["gap"]
+        return Calls(gap["lines"], gap["from"], gap["until"])
+    return Calls(1, value["ticket"], value["ticket"])
 
 
 def _bytes_of(*lines: str) -> bytes:

@@ -178,9 +178,9 @@ def _tell(writes: list[Write], outcomes: list[int | Exception]) -> None:
 
 
 def _make_file(path: str) -> None:
-    """Makes the file for the user of the process alone, and so those that SQLite makes beside it. A file that is there
-    is not opened: its close would end all locks of this process on it (fcntl(2)), and with them those of SQLite, which
-    keep other programs that open and close the file from removing its journal."""
+    """Makes the file for the user of the process alone, and so those that SQLite makes beside it. A file that is
+    there is not opened: its close would end all locks of this process on it (fcntl(2)), and with them those of
+    SQLite, which keep other programs that open and close the file from removing its journal."""
     with suppress(FileExistsError):
         os.close(os.open(path, os.O_RDWR | os.O_CREAT | os.O_EXCL | os.O_CLOEXEC, 0o600))
 

