@@ -1,7 +1,8 @@
 """Which of several control planes is asked, and how often a call is made again.
 
 A caller asks one plane until that fails. It moves on only from the plane that failed, so that calls that fail
-together do not come back to it; and not to a plane that was silent a moment ago, as long as another one answers.
+together do not come back to it; and not to a plane that was silent a moment ago, as long as another one answers. What
+is no answer of a plane, as that of a proxy, or of a plane with another secret, is as good as none.
 """
 
 import asyncio
@@ -58,6 +59,7 @@ class Planes:
         self._now = now
         self._at = 0
         self._silent: dict[int, float] = {}  # planes that gave no answer, and when
+        self._wrong: set[int] = set()  # planes whose last answer was none of a plane
         self._left = asyncio.Event()  # set, and replaced, when a plane is left that was silent
 
     def tries(self) -> Iterator[int]:
@@ -70,7 +72,8 @@ class Planes:
     def after(self, tried: set[int]) -> int | None:
         """Returns the plane to ask after those that were tried, None if there is no other."""
         left = [it for it in self._round() if it not in tried]
-        if tried and any(it not in self._silent for it in tried):  # one answered, so nobody waits for a silent one
+        if any(it not in self._silent and it not in self._wrong for it in tried):
+            # One answered, so nobody waits for a silent one.
             left = [it for it in left if not self._rests(it)]
         return left[0] if left else None
 
@@ -84,17 +87,20 @@ class Planes:
     def answered(self, at: int) -> None:
         """Notes that a plane did a call."""
         self._silent.pop(at, None)
+        self._wrong.discard(at)
 
-    def failed(self, at: int, is_silent: bool) -> None:
-        """Notes that a plane did not do a call, and moves on from it if it is the one that is asked first."""
+    def failed(self, at: int, is_silent: bool, is_wrong: bool = False) -> None:
+        """Notes that a plane did not do a call, and moves on from it if it is the one that is asked first. `is_wrong`
+        says that its answer was none of a plane to a right call."""
+        self.answered(at)
         if is_silent:
             self._silent[at] = self._now()
-        else:
-            self._silent.pop(at, None)
+        elif is_wrong:
+            self._wrong.add(at)
         if at == self._at:
             others = self._round()[1:]
             awake = [it for it in others if not self._rests(it)]
-            if awake or is_silent:
+            if awake or is_silent or is_wrong:
                 self._at = (awake or others or [at])[0]
             if is_silent and self._at != at:
                 self._left.set()

@@ -229,7 +229,7 @@ class Control:
             try:
                 made = _read(reads, await self._try(at, method, url, data, timeout), url)
             except Unreachable as why:
-                self.planes.failed(at, is_silent=not why.status)
+                self.planes.failed(at, is_silent=not why.status, is_wrong=isinstance(why, Wrong))
                 self._note(url, why)
                 raise
             self.planes.answered(at)

@@ -151,7 +151,7 @@ class HttpDesk:
             try:
                 made = await self._read_at(planes.urls[at], reads, method, path, body)
             except NoAnswer as why:
-                planes.failed(at, is_silent=not why.status)
+                planes.failed(at, is_silent=not why.status, is_wrong=isinstance(why, Wrong))
                 failed = why
             else:
                 planes.answered(at)
@@ -175,7 +175,9 @@ class HttpDesk:
             self._troubles.note(url, wrong)
             raise wrong from error
         if reply.status in (401, 403, 429):
-            self._troubles.note(url, Wrong(text, str(reply.status), status=reply.status))
+            wrong = Wrong(text, str(reply.status), status=reply.status)
+            self._troubles.note(url, wrong)
+            raise wrong
         raise NoAnswer(text, status=reply.status)
 
     async def _fetch(self, method: str, url: str, body: bytes | None) -> Reply:
@@ -201,7 +203,7 @@ class HttpDesk:
             try:
                 told = await self._read_at(planes.urls[at], _status_in, "GET", f"/jobs/{job}", None)
             except NoAnswer as why:
-                planes.failed(at, is_silent=not why.status)
+                planes.failed(at, is_silent=not why.status, is_wrong=isinstance(why, Wrong))
                 failed = why
                 continue
             if told["holder"]:

@@ -110,6 +110,25 @@ async def test_a_plane_that_was_silent_is_asked_again_after_a_while(two: tuple[S
         assert second.asked == before
 
 
+async def says_nothing_of_a_plane() -> web.StreamResponse:
+    return web.Response(text="<html>It works!</html>")
+
+
+async def test_what_is_no_plane_keeps_nobody_from_one_that_was_slow(two: tuple[Server, Server]) -> None:
+    """The second plane misses one deadline; the first is none."""
+    first, second = two
+    first.answers = says_nothing_of_a_plane
+    async with control_of(first, second, timeout=1.0) as control:
+        await control.read(Answer.value, "GET")
+        second.answers = never
+        with pytest.raises(Unreachable):
+            await control.read(Answer.value, "GET")
+        second.answers = fine
+        for _ in range(5):
+            await control.read(Answer.value, "GET")
+        assert first.asked <= 3
+
+
 async def test_a_call_that_waits_follows_the_others_to_another_plane(two: tuple[Server, Server]) -> None:
     """Its own time is a minute."""
     first, second = two
@@ -294,3 +313,17 @@ async def test_a_hedged_call_that_is_cancelled_leaves_nothing(two: tuple[Server,
         await asyncio.gather(asking, return_exceptions=True)
         left = {it for it in asyncio.all_tasks() - before if "attempt" in repr(it.get_coro())}
         assert not left or (await asyncio.wait(left, timeout=0.5))[1] == set()
+
+
+def test_what_is_no_plane_is_left_for_one_that_was_silent_a_moment_ago() -> None:
+    planes, made = Planes(["proxy", "plane"], lambda: 0.0, rest=5.0), list[int]()
+    planes.failed(0, is_silent=False, is_wrong=True)
+    planes.failed(1, is_silent=True)
+    for at in planes.tries():
+        made.append(at)
+        if at == 0:
+            planes.failed(at, is_silent=False, is_wrong=True)
+        else:
+            planes.answered(at)
+    assert made == [0, 1]
+    assert next(planes.tries()) == 1
