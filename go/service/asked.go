@@ -11,14 +11,19 @@ import (
 // do not come back to it; and not to a plane that was silent a moment ago, as long as
 // another one answers, be it that it cannot do the call yet.
 type planes struct {
-	mutex  sync.Mutex
-	urls   []string
-	first  int                  // that is asked first
-	silent map[string]time.Time // planes that gave no answer, and when
+	mutex   sync.Mutex
+	urls    []string
+	first   int                  // that is asked first
+	silent  map[string]time.Time // planes that gave no answer, and when
+	silence map[string]time.Time // those that ever gave none
 }
 
+// trust is for how long after its silence a caller does not go to a plane just because
+// another one names it.
+const trust = time.Minute
+
 func newPlanes(urls []string) *planes {
-	made := &planes{silent: map[string]time.Time{}}
+	made := &planes{silent: map[string]time.Time{}, silence: map[string]time.Time{}}
 	for _, one := range urls {
 		made.urls = append(made.urls, strings.TrimRight(one, "/"))
 	}
@@ -45,6 +50,14 @@ func (p *planes) next(tried []string, rest time.Duration) string {
 
 func (p *planes) count() int { return len(p.urls) }
 
+// isSilent says whether a plane gave no answer when it was asked last.
+func (p *planes) isSilent(plane string) bool {
+	p.mutex.Lock()
+	defer p.mutex.Unlock()
+	_, isSilent := p.silent[plane]
+	return isSilent
+}
+
 // answered notes that a plane did a call.
 func (p *planes) answered(plane string) {
 	p.mutex.Lock()
@@ -60,6 +73,7 @@ func (p *planes) failed(plane string, isSilent bool, rest time.Duration) {
 	delete(p.silent, plane)
 	if isSilent {
 		p.silent[plane] = time.Now()
+		p.silence[plane] = time.Now()
 	}
 	if len(p.urls) < 2 || p.urls[p.first] != plane {
 		return
@@ -72,6 +86,19 @@ func (p *planes) failed(plane string, isSilent bool, rest time.Duration) {
 	}
 	if isSilent {
 		p.first = (p.first + 1) % len(p.urls)
+	}
+}
+
+// told takes that the plane of a URL holds the job, as another one said: it is asked
+// first from now on, unless it was silent lately.
+func (p *planes) told(holder string) {
+	p.mutex.Lock()
+	defer p.mutex.Unlock()
+	for at, plane := range p.urls {
+		if since, isKnown := p.silence[plane]; plane == holder && (!isKnown || time.Since(since) >= trust) {
+			p.first = at
+			return
+		}
 	}
 }
 

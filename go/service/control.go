@@ -18,6 +18,7 @@ import (
 const (
 	ticketHeader  = "Hourstable-Ticket"
 	readingHeader = "Hourstable-Reading"
+	holderHeader  = "Hourstable-Holder"  // the address of the plane that holds the job, if another one handed the call on
 	requestHeader = "Hourstable-Request" // by which the log of a plane names the request
 	longestWait   = 30 * time.Second     // of a GET that waits
 	usualTimeout  = 5 * time.Second
@@ -178,7 +179,11 @@ func (c *control) hedge(ctx context.Context, asked request, tried *tries) (answe
 		plane = ""
 		select {
 		case <-third.C:
-			plane = tried.next(c.hedges)
+			if plane = c.planes.next(tried.tried, c.timeout); c.planes.isSilent(plane) {
+				plane = ""
+			} else if plane != "" {
+				plane = tried.next(c.hedges)
+			}
 		case one := <-ended:
 			running--
 			if one.panic != nil {
@@ -433,6 +438,7 @@ func (c *control) taken(response *http.Response, text []byte, sent uint64, asked
 	if err != nil {
 		return answer{}, &unreached{what: "unreadable", why: fmt.Errorf("%d: %w", made.status, err)}
 	}
+	c.planes.told(response.Header.Get(holderHeader))
 	return made, nil
 }
 

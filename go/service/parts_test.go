@@ -290,3 +290,39 @@ func TestHedgesAreATenthOfTheCalls(t *testing.T) {
 		t.Errorf("%d and %d requests", first, second)
 	}
 }
+
+// A plane that hands a call on tells the address of the holder, which is asked from then
+// on; not if it was silent to this caller.
+func TestTheHolderThatAPlaneTells(t *testing.T) {
+	for _, isSilent := range []bool{false, true} {
+		var mutex sync.Mutex
+		asked, address := 0, ""
+		holder := plane(t, func(out http.ResponseWriter, _ *http.Request) {
+			mutex.Lock()
+			defer mutex.Unlock()
+			asked++
+			out.Write([]byte("{}"))
+		})
+		address = holder
+		standby := plane(t, func(out http.ResponseWriter, _ *http.Request) {
+			out.Header().Set(holderHeader, address)
+			out.Write([]byte("{}"))
+		})
+		asks := controlOf(t, standby, holder)
+		expected := 2
+		if isSilent {
+			asks.planes.failed(holder, true, 0)
+			expected = 0
+		}
+		for range [3]int{} {
+			if _, err := asks.call(context.Background(), request{method: "POST", path: "/grant"}); err != nil {
+				t.Error(err)
+			}
+		}
+		mutex.Lock()
+		if asked != expected {
+			t.Errorf("the holder was asked %d times, and not %d", asked, expected)
+		}
+		mutex.Unlock()
+	}
+}

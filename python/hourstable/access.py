@@ -53,6 +53,11 @@ class Access:
         self._counts, self._now = counts, now
         self._bucket, self._left_out = Bucket(MOST_LINES, 4 * MOST_LINES, now()), 0
 
+    def reached_by(self, host: str | None) -> None:
+        """Takes that callers reach the plane by a name, too."""
+        if host:
+            self._hosts.add(host.lower().rstrip("."))
+
     def know(self, request: web.Request) -> None:
         """Finds out who calls. Raises Turned for a page of elsewhere, and for who is not known."""
         self._look_at_origin(request)

@@ -16,6 +16,7 @@ from hourstable.table_calls import Malformed
 
 T = TypeVar("T")
 READING = "Hourstable-Reading"
+HOLDER = "Hourstable-Holder"  # the address of the plane that did a call which was handed on to it
 KEY = "Hourstable-Key"  # of the life that gives leases back, whose body is a message
 MOST_SHOWN, MOST_WORD = 8, 128  # lives whose keys are shown; characters of a key or a part of a place
 TASKS, LIVES = range(1, 65), range(1, 1 << 32)

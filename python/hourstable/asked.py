@@ -8,6 +8,8 @@ is no answer of a plane, as that of a proxy, or of a plane with another secret, 
 import asyncio
 from collections.abc import Callable, Iterator
 
+TRUST = 60.0  # seconds after its silence, for which a caller goes to a plane not just because another one names it
+
 
 class RetryBudget:
     """How many calls may be made again: a tenth of all calls, `a_second` more each second, and up to `most` at once
@@ -60,6 +62,7 @@ class Planes:
         self._at = 0
         self._silent: dict[int, float] = {}  # planes that gave no answer, and when
         self._wrong: set[int] = set()  # planes whose last answer was none of a plane
+        self._silent_at: dict[int, float] = {}  # those that ever did not
         self._left = asyncio.Event()  # set, and replaced, when a plane is left that was silent
 
     def tries(self) -> Iterator[int]:
@@ -76,6 +79,10 @@ class Planes:
             # One answered, so nobody waits for a silent one.
             left = [it for it in left if not self._rests(it)]
         return left[0] if left else None
+
+    def is_silent(self, at: int) -> bool:
+        """Whether a plane gave no answer when it was asked last."""
+        return at in self._silent
 
     def _round(self) -> list[int]:
         count = len(self.urls)
@@ -94,7 +101,7 @@ class Planes:
         says that its answer was none of a plane to a right call."""
         self.answered(at)
         if is_silent:
-            self._silent[at] = self._now()
+            self._silent[at] = self._silent_at[at] = self._now()
         elif is_wrong:
             self._wrong.add(at)
         if at == self._at:
@@ -105,6 +112,13 @@ class Planes:
             if is_silent and self._at != at:
                 self._left.set()
                 self._left = asyncio.Event()
+
+    def told(self, url: str) -> None:
+        """Takes that the plane of a URL holds the job, as another one said: it is asked first from now on, unless it
+        was silent to this caller in the last minute or so."""
+        at = self.urls.index(url) if url in self.urls else self._at
+        if self._now() - self._silent_at.get(at, -TRUST) >= TRUST:
+            self._at = at
 
     async def left(self, at: int) -> None:
         """Returns when a plane that was asked first has been left because it was silent: who still waits for an
@@ -128,8 +142,9 @@ class Tries:
 
     def hedge(self) -> int | None:
         """Returns the plane to ask beside one that has not answered yet, None if there is no other, or hedges are a
-        tenth of all calls already."""
-        return self._take(self._planes.hedges)
+        tenth of all calls already. A plane that was silent when it was asked last is not asked for that."""
+        at = self._planes.after(self._tried)
+        return None if at is None or self._planes.is_silent(at) else self._take(self._planes.hedges)
 
     def _take(self, budget: RetryBudget) -> int | None:
         at = self._planes.after(self._tried)

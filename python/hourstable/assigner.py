@@ -19,6 +19,7 @@ from hourstable.supervisor import Supervisor
 from hourstable.system import SYSTEM, System
 
 ALL = "all jobs"
+BEFORE = 0.5  # seconds before the end of the grace, from which on changes are proposed: none is committed before it
 THINK = 2.0  # seconds after which loads are looked at again, if nothing else changed
 log = logging.getLogger("hourstable.assigner")
 
@@ -50,7 +51,8 @@ class JobAssigner:
         if self._lease is None:
             self._lease = library.Assigner(self.number, status["policy"]["job"])
         phase = Phase(status["committed"], status["pending"] or 0)
-        plan = None if status["pending"] else await self._plan(status)
+        is_early = status["pending"] or status.get("grace", 0) > BEFORE
+        plan = None if is_early else await self._plan(status)
         action, term = self._lease.next(self._now(), phase, plan is not None)
         if action == "take":
             return await self._take(status)

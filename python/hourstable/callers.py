@@ -142,6 +142,10 @@ class Callers:
     def __bool__(self) -> bool:
         return bool(self.known)
 
+    def secret_of_admin(self) -> str | None:
+        """Returns a secret with which another plane lets this one in, None if there is none."""
+        return next((secret for it in self.known if it.caller.role is Role.ADMIN for secret in it.secrets), None)
+
     def have_secrets(self) -> bool:
         """Whether a caller is known by a secret."""
         return bool(self._secrets)

@@ -21,6 +21,7 @@ from .transport import Fetched, Http, Transport
 from .waiting import unless, within
 
 READING, KEY = "Hourstable-Reading", "Hourstable-Key"
+HOLDER = "Hourstable-Holder"  # the address of the plane that holds the job, if another one handed the call on
 TIMEOUT = 2.0  # seconds that a call may take
 WAIT = 30.0  # seconds that a waiting GET takes if nothing happens
 HEDGE = 1 / 3  # of its time, after which a call may be made at another plane as well
@@ -265,7 +266,9 @@ class Control:
             self.tickets.observe_text(headers.get(HEADER))
         except ValueError as why:  # the answer counts all the same
             self._note(url, Wrong(f"{url}: {why}", "ticket"))
-        return _taken(url, status, headers, found, sent)
+        made = _taken(url, status, headers, found, sent)
+        self.planes.told(headers.get(HOLDER, ""))
+        return made
 
     async def _fetch(self, method: str, url: str, body: bytes | Keyed | None) -> Fetched:
         headers = {**self._headers, HEADER: str(self.tickets.draw())}

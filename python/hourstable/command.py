@@ -87,7 +87,9 @@ def _control_words(words: argparse.ArgumentParser) -> None:
     shared.add_argument("--alone", action="store_false", dest="shared",
                         help="no other plane uses the store")
     words.add_argument("--standby", type=float, default=2.0, metavar="SECONDS",
-                       help="for how long another plane wrote nothing before this one takes over")
+                       help="for how long another plane is silent before this one takes its jobs (2)")
+    words.add_argument("--address", default="", metavar="URL",
+                       help="at which callers and the other planes reach it (that of --listen)")
     words.add_argument("--assigner", type=int, default=1, metavar="N",
                        help="the number of its assigner, 0 for none (1)")
     _access_words(words)
@@ -112,6 +114,8 @@ def _access_words(words: argparse.ArgumentParser) -> None:
     words.add_argument("--tls-key", metavar="FILE", help="the key of its certificate")
     words.add_argument("--tls-client-ca", metavar="FILE",
                        help="callers show a certificate of this authority; with a secret of --callers they need none")
+    words.add_argument("--tls-peer-ca", metavar="FILE",
+                       help="the authority of the other planes' certificates (--tls-client-ca, or else the system's)")
 
 
 def _rule_words(words: argparse.ArgumentParser) -> None:
@@ -241,6 +245,7 @@ def options_of(chosen: argparse.Namespace) -> Options:
         assigner=chosen.assigner, callers=callers, hosts=[host, *chosen.host],
         tls=tls, limits=limits, rules=_rules_in(chosen),
         store_deadline=chosen.store_deadline, state=chosen.state, keep_logs=chosen.keep_logs,
+        address=chosen.address.rstrip("/"), peer_tls=peer_tls(chosen),
     )
 
 
@@ -341,6 +346,15 @@ def server_tls(chosen: argparse.Namespace, callers: Callers) -> ssl.SSLContext |
         tls.load_verify_locations(chosen.tls_client_ca)
         is_optional = chosen.callers and callers.have_secrets()
         tls.verify_mode = ssl.CERT_OPTIONAL if is_optional else ssl.CERT_REQUIRED
+    return tls
+
+
+def peer_tls(chosen: argparse.Namespace) -> ssl.SSLContext | None:
+    """Returns how a plane reaches the other planes of its store: it shows its own certificate."""
+    if not chosen.tls_cert:
+        return None
+    tls = ssl.create_default_context(cafile=chosen.tls_peer_ca or chosen.tls_client_ca)
+    tls.load_cert_chain(chosen.tls_cert, chosen.tls_key)
     return tls
 
 

@@ -7,11 +7,13 @@ a call of the library; this module carries, stores, limits and counts.
 import asyncio
 import json
 import logging
+import socket
 import ssl
 from collections.abc import Awaitable, Callable, Sequence
 from dataclasses import dataclass, field
 from functools import partial
 from typing import Any, TypeVar
+from urllib.parse import urlsplit
 
 from aiohttp import web
 
@@ -19,13 +21,15 @@ from hourstable import page, roles
 from hourstable import tickets as ticketing
 from hourstable.access import Access, Turned, caller_in, look_at_task, route_of
 from hourstable.answers import (
-    KEY, LIVES, TASKS, answer_of, asked_in, failure, job_in, json_of, member, message_of, name_in, not_admitted,
-    number_in, refused, told, word_in,
+    KEY, LIVES, READING, TASKS, answer_of, asked_in, failure, job_in, json_of, member, message_of, name_in,
+    not_admitted, number_in, refused, told, word_in,
 )
 from hourstable.callers import Callers, Role
 from hourstable.connections import BACKLOG, Connections
 from hourstable.context import note
 from hourstable.failures import Failures
+from hourstable.forwarding import HEADER as FORWARDED
+from hourstable.forwarding import Carried, Forwarding
 from hourstable.jobs import Job, Made, Replaced, Settings, policy_of
 from hourstable.keys import KeyTold
 from hourstable.lanes import Lanes
@@ -35,6 +39,7 @@ from hourstable.limits import Limits as Limits
 from hourstable.loads import Denials, Loads
 from hourstable.metrics import CONTENT_TYPE, Metrics, Shown
 from hourstable.overload import Overload
+from hourstable.peers import Peers
 from hourstable.readiness import Readiness
 from hourstable.record import Record
 from hourstable.request_ids import name_answer, traced
@@ -43,6 +48,7 @@ from hourstable.store import Conflict, Damaged, LivesSpent, NoSuchJob, Store, St
 from hourstable.supervisor import Supervisor
 from hourstable.table_calls import Call, Commit, Free, Grant, Malformed, Propose, Renew, Take, term_of
 from hourstable.tickets import Tickets
+from hourstable.transport import Http, Transport
 from hourstable.waiting import within
 from hourstable.waits import Waits
 
@@ -99,7 +105,7 @@ class Plane:
 
     def __init__(
         self, store: Store, settings: Settings, tickets: Tickets, limits: Limits | None = None,
-        callers: Callers | None = None, hosts: Sequence[str] = (),
+        callers: Callers | None = None, hosts: Sequence[str] = (), transport: Transport | None = None,
     ) -> None:
         self.store, self.settings, self.tickets = store, settings, tickets
         self.limits = limits or Limits()
@@ -107,6 +113,11 @@ class Plane:
         self._now = settings.system.monotonic
         self.jobs: dict[str, Followed] = {}
         self.failures = Failures()
+        self.peers = Peers(store, settings.process, settings.incarnation, settings.standby, self._now)
+        self.forwarding = Forwarding(
+            self.peers, tickets, transport or Http(), self.failures, self._now,
+            lambda: self.access.callers.secret_of_admin(),
+        )
         self.readiness = Readiness(store, settings.system)
         self.record = Record(None, settings.system)
         self.waits = Waits(tickets, self._now)
@@ -119,13 +130,18 @@ class Plane:
             f"plane {settings.process}", log, self.metrics.internal_error, settings.system.random().random
         )
         self._looking: set[str] = set()  # jobs at which it looks now
+        self._taking: set[str] = set()  # jobs that it takes now
+        self.is_ending = False  # whether it gives its jobs away
 
     # Starting and ending ---------------------------------------------------------------------
 
     async def start(
-        self, host: str, port: int, tls: ssl.SSLContext | None = None, poll: float = 1.0
+        self, host: str, port: int, tls: ssl.SSLContext | None = None, poll: float = 1.0, address: str = ""
     ) -> int:
-        """Listens, and returns the port."""
+        """Listens, and returns the port. `address` is the URL at which the other planes of the store reach this one,
+        by default that of the host and the port. Raises BlockingIOError if one of them has the number of this one."""
+        if self.settings.shared:
+            await self.peers.check()
         await asyncio.gather(*map(self._look_at, await self.store.jobs()))
         self._runner = web.AppRunner(self.application(), access_log=None, lingering_time=LINGERING)
         await self._runner.setup()
@@ -138,10 +154,17 @@ class Plane:
         self.supervisor.watch("overload", self.overload.watch)
         self.supervisor.watch("poller", partial(self._poll, poll))
         made: int = self._server.sockets[0].getsockname()[1]
+        if self.settings.shared:
+            self.peers.address = address or url_of(host, made, tls is not None)
+            self.access.reached_by(urlsplit(self.peers.address).hostname)
+            await self._beat_once()
+            self.supervisor.watch("beats", self._beat)
         return made
 
     async def stop(self) -> None:
-        """Answers what was asked, and closes all but the store."""
+        """Gives the jobs to other planes, answers what was asked, and closes all but the store."""
+        self.is_ending = True
+        await self._hand_over()
         self.waits.is_closing = True
         if self._server is not None:
             self._server.close()
@@ -159,6 +182,8 @@ class Plane:
             _, late = await asyncio.wait(settling, timeout=self.limits.patience)
             for one in late:
                 one.cancel()
+        await self.peers.end()
+        await self.forwarding.close()
         for followed in self.jobs.values():
             followed.job.close()
 
@@ -202,6 +227,113 @@ class Plane:
     def _looked(self, name: str, _: "asyncio.Task[None]") -> None:
         self._looking.discard(name)
 
+    # Other planes ----------------------------------------------------------------------------
+
+    async def _beat(self) -> None:
+        """Writes the beat of this plane again and again, and takes the jobs of planes that are gone."""
+        while True:
+            await asyncio.sleep(self.peers.interval)
+            await self._beat_once()
+            self._take_jobs()
+
+    async def _beat_once(self) -> None:
+        heard = {name: self.forwarding.heard(followed.job) for name, followed in self.jobs.items()}
+        try:
+            await self.peers.beat(heard, self.failures.of_plane())
+        except StoreFailed as error:
+            log.info("the beat of this plane was not written: %s", error)
+
+    def _take_jobs(self) -> None:
+        for name, followed in self.jobs.items():
+            job = followed.job
+            is_others = not job.is_held and job.holder not in (None, self.settings.process)
+            if is_others and name not in self._taking and self.forwarding.may_take(job):
+                self._taking.add(name)
+                taking = self.supervisor.spawn("take", self._take(job))
+                taking.add_done_callback(partial(self._took, name))
+
+    def _took(self, name: str, _: "asyncio.Task[None]") -> None:
+        self._taking.discard(name)
+
+    async def _take(self, job: Job) -> None:
+        """Takes a job, if no other plane was first."""
+        try:
+            await job.take()
+        except (Replaced, Conflict, NoSuchJob):
+            return
+        except Exception as error:
+            self._fail(job.name, "call", error)
+        else:
+            log.info("%s was taken from process %s", job.name, job.holder)
+            self.failures.well(job.name, "call")
+
+    async def _hand_over(self) -> None:
+        """Gives the jobs that this plane holds to others, so that no key is denied while it ends."""
+        if not (self.settings.shared and self.peers.others()):
+            return
+        giving = [self.supervisor.spawn("give", self._give(it.job)) for it in self.jobs.values() if it.job.is_held]
+        if giving:
+            await asyncio.wait(giving, timeout=self.limits.patience)
+
+    async def _give(self, job: Job) -> None:
+        """Gives a job to another plane, after what is proposed is committed: that one knows no rows, so that its
+        commits wait until the leases of this one have ended."""
+        end = self._now() + self.limits.patience / 2
+        while job.view.proposed and self._now() < end:
+            await job.changed(0.1)
+        try:
+            await job.give_away()
+            for process in self.peers.others():
+                if await self.forwarding.give(job, process, self.settings.standby):
+                    await job.refresh()
+                    log.info("%s was given to process %d", job.name, process)
+                    return
+        except StoreFailed as error:
+            log.warning("%s was not given away: %s", job.name, error)
+        job.keep()
+
+    def _carried(self, handler: Handler) -> Handler:
+        """Returns a handler that lets another plane do a call of a job, if that holds it, or if this one cannot."""
+
+        async def carried(request: web.Request) -> web.StreamResponse:
+            if not self.settings.shared:
+                return await handler(request)
+            job = (await self.followed(job_in(request))).job
+            asked = await self._carriage(request, job)
+            if asked is None:
+                return await handler(request)
+            was_asked = job.is_elsewhere() or self.peers.is_cut_off()
+            holder, made = job.holder, await self.forwarding.ask(job, asked) if was_asked else None
+            if made is not None:
+                return made
+            try:
+                return await handler(request)
+            except (Replaced, StoreFailed):
+                if not was_asked or job.holder != holder:
+                    made = await self.forwarding.ask(job, asked)
+                if made is None:
+                    raise
+                return made
+
+        return carried
+
+    async def _carriage(self, request: web.Request, job: Job, part: dict[str, Any] | None = None) -> Carried | None:
+        """Returns a call that may be handed on, which is a part of the request if one is given; None if it was."""
+        if FORWARDED in request.headers:
+            return None
+        if part is not None:
+            self._hear(request, job, part)
+            return await Carried.of(request, True, f"/jobs/{job.name}/grant", json.dumps(part).encode())
+        is_of_task = request.path.endswith("/grant")
+        if is_of_task:
+            self._hear(request, job, await json_of(request))
+        return await Carried.of(request, is_of_task)
+
+    def _hear(self, request: web.Request, job: Job, given: dict[str, Any]) -> None:
+        task = asked_in(given).task
+        look_at_task(request, job.name, task)
+        self.forwarding.hear(job.name, task)
+
     async def _look_at(self, name: str) -> None:
         """Reads what is stored of a job. One that fails keeps no other from being served."""
         try:
@@ -233,7 +365,8 @@ class Plane:
             self.supervisor.caught(f"job {what}", error)
 
     def _job(self, name: str) -> Job:
-        return Job(name, self.store, self.settings, self.tickets, self.metrics)
+        given = self.store, self.settings, self.tickets, self.metrics
+        return Job(name, *given, may_take=self.forwarding.may_take)
 
     async def followed(self, name: str) -> Followed:
         """Returns a job. Raises NoSuchJob, and what loading it raises, which is noted."""
@@ -256,7 +389,10 @@ class Plane:
     # Calls of tables -------------------------------------------------------------------------
 
     async def call(self, job: Job, call: Call[T]) -> Made[T]:
-        """Makes a call of a table. It goes on if its caller leaves or its time is over."""
+        """Makes a call of a table. It goes on if its caller leaves or its time is over. A plane that ends takes no
+        proposal: nobody may be left to commit it."""
+        if self.is_ending and isinstance(call, Propose):
+            raise Replaced(1)
         return await self._in_time(self._begin(job, call))
 
     def _begin(self, job: Job, call: Call[T]) -> "asyncio.Future[Made[T]]":
@@ -343,6 +479,7 @@ class Plane:
             ],
             "alive": followed.alive(now), "draining": followed.draining(),
             "since_commit": round(now - job.last_commit, 3), "admitted": job.admitted(),
+            "grace": round(job.grace_left() / 1000, 3),
         }
 
     def shown(self) -> list[Shown]:
@@ -362,19 +499,20 @@ class Plane:
         )
         made.on_response_prepare.append(name_answer)
         made.add_routes([  # they are looked at in this order: the calls of tasks come first
-            web.post("/jobs/{job}/grant", self._post_grant),
+            web.post("/jobs/{job}/grant", self._carried(self._post_grant)),
             web.get("/jobs/{job}/phase", self._get_phase),
-            web.post("/jobs/{job}/free", self._post_free),
-            web.post("/jobs/{job}/loads", self._post_loads),
+            web.post("/jobs/{job}/free", self._carried(self._post_free)),
+            web.post("/jobs/{job}/loads", self._carried(self._post_loads)),
             web.get("/jobs/{job}/loads", self._get_loads),
             web.get("/jobs/{job}/assignment", self._get_assignment),
             web.post("/jobs/{job}/tasks/{task}/life", self._post_life),
             web.post("/grants", self._post_grants),
-            web.post("/jobs/{job}/take", self._post_take),
-            web.post("/jobs/{job}/renew", self._post_renew),
-            web.post("/jobs/{job}/propose", self._post_propose),
-            web.post("/jobs/{job}/commit", self._post_commit),
+            web.post("/jobs/{job}/take", self._carried(self._post_take)),
+            web.post("/jobs/{job}/renew", self._carried(self._post_renew)),
+            web.post("/jobs/{job}/propose", self._carried(self._post_propose)),
+            web.post("/jobs/{job}/commit", self._carried(self._post_commit)),
             web.post("/jobs/{job}/drain", self._post_drain),
+            web.post("/jobs/{job}/hold", self._post_hold),
             web.get("/jobs/{job}", self._get_job),
             web.put("/jobs/{job}", self._put_job),
             web.get("/jobs", self._get_jobs),
@@ -497,7 +635,7 @@ class Plane:
             case web.HTTPException():
                 return failure(error.status, error.reason)
             case Replaced():
-                return failure(503, str(error), error.after, refused="replaced")
+                return failure(503, str(error), error.after or None, refused="replaced")
         log.warning("%s %s: %s", request.method, request.path, error)
         match error:
             case Damaged():
@@ -511,7 +649,7 @@ class Plane:
 
     async def _readyz(self, request: web.Request) -> web.Response:
         is_ready, shown = await self.readiness.shown(self.access.reads_all(request))
-        is_ready = shown["ready"] = is_ready and not self.waits.is_closing
+        is_ready = shown["ready"] = is_ready and not (self.is_ending or self.waits.is_closing)
         return answer_of(shown, 200 if is_ready else 503)
 
     async def _get_record(self, request: web.Request) -> web.Response:
@@ -644,8 +782,22 @@ class Plane:
         waiting = [one for one in begun if isinstance(one, asyncio.Future)]
         if waiting:
             await asyncio.wait(waiting, timeout=self.limits.patience)
-        answers = [self._grant_part(request, one) for one in begun]
+        answers = await asyncio.gather(*(self._part(request, *one) for one in zip(asked, begun)))
         return message_of(b'{"answers":[%s]}' % b",".join(answers))
+
+    async def _part(
+        self, request: web.Request, asked: object, begun: "asyncio.Future[Made[bytes]] | Exception"
+    ) -> bytes:
+        """Returns the answer of one of several grants; that of another plane, if this one cannot give it."""
+        error = begun if isinstance(begun, Exception) else begun.exception() if begun.done() else None
+        if isinstance(error, Replaced | StoreFailed) and isinstance(asked, dict):
+            job = (await self.followed(name_in(asked.get("job")))).job
+            one = await self._carriage(request, job, asked)
+            made = await self.forwarding.ask(job, one) if one is not None else None
+            if made is not None and isinstance(made.body, bytes):
+                reading = made.headers.get(READING, "null")
+                return b'{"status":%d,"reading":%s,"body":%s}' % (made.status, reading.encode(), made.body)
+        return self._grant_part(request, begun)
 
     async def _begun(self, request: web.Request, asked: object) -> "asyncio.Future[Made[bytes]] | Exception":
         """Asks for one of several grants, or says why that is not done."""
@@ -685,6 +837,18 @@ class Plane:
         made = await self.call(job, call)
         return told(made, lambda freed: answer_of({"freed": freed}))
 
+    async def _post_hold(self, request: web.Request) -> web.Response:
+        """Takes a job that another plane gives away."""
+        job, given = (await self.followed(job_in(request))).job, await json_of(request)
+        job.given_by = member(given, "process", range(64))
+        try:
+            await job.take()
+        except Conflict:
+            raise Replaced(0) from None
+        finally:
+            job.given_by = None
+        return web.Response(status=204)
+
     async def _post_take(self, request: web.Request) -> web.Response:
         job, given = (await self.followed(job_in(request))).job, await json_of(request)
         made = await self.call(job, Take(member(given, "assigner", range(1, 1 << 64))))
@@ -718,6 +882,12 @@ def task_in(request: web.Request, given: dict[str, Any]) -> int:
     note(task=task)
     look_at_task(request, job_in(request), task)
     return task
+
+
+def url_of(host: str, port: int, is_tls: bool) -> str:
+    """Returns the URL of a server: by the name of this host, if it listens on all addresses."""
+    name = socket.gethostname() if host in ("", "0.0.0.0", "::") else host
+    return f"http{'s' if is_tls else ''}://{f'[{name}]' if ':' in name else name}:{port}"
 
 
 def may_wait(request: web.Request, route: str) -> bool:

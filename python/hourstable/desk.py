@@ -11,7 +11,7 @@ from urllib.parse import urlencode
 import aiohttp
 
 from hourstable.asked import Planes
-from hourstable.calls import READING, Troubles, Wrong, is_reading
+from hourstable.calls import HOLDER, READING, Troubles, Wrong, is_reading
 from hourstable.calls import Unreachable as NoAnswer
 from hourstable.control import Plane
 from hourstable.jobs import Replaced
@@ -115,6 +115,7 @@ class Reply(NamedTuple):
     status: int
     body: bytes
     reading: int | None
+    holder: str = ""  # the URL of the plane that did it, if that which was asked handed it on
 
 
 class HttpDesk:
@@ -149,7 +150,7 @@ class HttpDesk:
         failed, planes = NoAnswer("there is no control plane"), self._planes_of(job)
         for at in planes.tries():
             try:
-                made = await self._read_at(planes.urls[at], reads, method, path, body)
+                made = await self._read_at(planes, at, reads, method, path, body)
             except NoAnswer as why:
                 planes.failed(at, is_silent=not why.status, is_wrong=isinstance(why, Wrong))
                 failed = why
@@ -159,9 +160,10 @@ class HttpDesk:
         raise Unreachable(str(failed), failed.least) from failed
 
     async def _read_at(
-        self, url: str, reads: Callable[[Reply], T], method: str, path: str, body: bytes | None
+        self, planes: Planes, at: int, reads: Callable[[Reply], T], method: str, path: str, body: bytes | None = None
     ) -> T:
         """Returns what `reads` makes of the answer of one plane. Raises NoAnswer."""
+        url = planes.urls[at]
         try:
             reply = await within(PATIENCE, self._fetch(method, url + path, body))
         except (aiohttp.ClientError, TimeoutError, OSError, ValueError) as error:
@@ -169,7 +171,9 @@ class HttpDesk:
         text = f"{url}{path}: {reply.status} {reply.body[:200]!r}"
         try:
             if 200 <= reply.status < 300 or reply.status == 409:
-                return reads(reply)
+                made = reads(reply)
+                planes.told(reply.holder)
+                return made
         except (ValueError, LookupError, TypeError, RecursionError) as error:
             wrong = Wrong(f"{text}: {error!r}", "unreadable", status=reply.status)
             self._troubles.note(url, wrong)
@@ -190,7 +194,7 @@ class HttpDesk:
         reading = told.get(READING)
         if reading is not None and not is_reading(reading):
             raise ValueError(f"the reading {reading[:40]!r} is none of a table")
-        return Reply(status, text, None if reading is None else int(reading))
+        return Reply(status, text, None if reading is None else int(reading), told.get(HOLDER, ""))
 
     async def jobs(self) -> list[str]:
         return await self._read(_names_in, "GET", "", "/jobs")
@@ -201,7 +205,7 @@ class HttpDesk:
         failed = NoAnswer("there is no control plane")
         for at in planes.tries():
             try:
-                told = await self._read_at(planes.urls[at], _status_in, "GET", f"/jobs/{job}", None)
+                told = await self._read_at(planes, at, _status_in, "GET", f"/jobs/{job}")
             except NoAnswer as why:
                 planes.failed(at, is_silent=not why.status, is_wrong=isinstance(why, Wrong))
                 failed = why

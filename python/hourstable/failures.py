@@ -8,12 +8,13 @@ from hourstable.store import StoreFailed
 
 class Failure(NamedTuple):
     """Why a job does not work: the words of the last error, the monotonic seconds of the first one in a row, how many
-    there were since, and the seconds of the last one."""
+    there were since, the seconds of the last one, and whether it is one of the store."""
 
     why: str
     since: float
     tries: int
     last: float
+    is_of_store: bool = False
 
     def value(self, now: float) -> dict[str, Any]:
         """Returns what `/overview` shows as `failed`. `seconds` says for how long the job has failed."""
@@ -31,7 +32,8 @@ class Failures:
         """Takes an error of a job, and returns its failure."""
         of_job = self._failed.setdefault(job, {})
         before = of_job.get(what, Failure("", now, 0, now))
-        made = of_job[what] = Failure(words_of(error), before.since, before.tries + 1, now)
+        is_of_store = isinstance(error, StoreFailed)
+        made = of_job[what] = Failure(words_of(error), before.since, before.tries + 1, now, is_of_store)
         return made
 
     def well(self, job: str, what: str) -> None:
@@ -56,6 +58,11 @@ class Failures:
         """Returns the failure of a job that began first, None if it is well."""
         found = sorted(self._failed.get(job, {}).values(), key=lambda it: it.since)
         return found[0] if found else None
+
+    def of_plane(self) -> frozenset[str]:
+        """Returns the jobs that fail on this plane by itself: another one may do better. The store is the same for
+        all, and a plane that does not reach it writes no beat either."""
+        return frozenset(job for job, of in self._failed.items() if not all(it.is_of_store for it in of.values()))
 
     def __iter__(self) -> Iterator[str]:
         """Returns the names of the jobs that failed."""

@@ -41,7 +41,7 @@ WORDS = ("skew", "guard", "bridge", "job", "numbers")
 
 class Replaced(Exception):
     """Another control plane holds the job, or took it over during the call. Nothing is known of the
-    call; it may be made again after some seconds, or at the other plane."""
+    call; it may be made again at the other plane, or here after some seconds."""
 
     def __init__(self, after: float) -> None:
         super().__init__("another control plane holds the job")
@@ -188,7 +188,7 @@ class Settings:
     logs: Path | None  # the folder of logs; None: no log is kept
     process: int
     shared: bool
-    standby: float = 2.0  # seconds for which a store stands still before another plane takes over
+    standby: float = 2.0  # seconds for which a plane is silent before another one takes its jobs
     grants_ahead: int = 256  # if no other plane uses the store
     ticks_ahead: int = 1000
     local: Callable[[], int] = field(default=SYSTEM.ticks)
@@ -227,8 +227,14 @@ class Job:
 
     def __init__(
         self, name: str, store: Store, settings: Settings, tickets: Tickets, counters: Counters,
+        may_take: "Callable[[Job], bool] | None" = None,
     ) -> None:
         self.name, self.settings, self.tickets = name, settings, tickets
+        self._may_take = may_take or Job.stands_still
+        self.holder: int | None = None  # the process of the plane that wrote the row last, None if none did
+        self.holder_since = settings.system.monotonic()  # when that was seen first
+        self.given_by: int | None = None  # the process of a plane that gives this one the job
+        self.is_given = False  # whether this plane gave the job away
         self._store, self._counters = store, counters
         self._now = settings.system.monotonic
         self._lock = asyncio.Lock()
@@ -324,11 +330,18 @@ class Job:
         """Observes the ticket of the line that is stored: what is shown of it comes after the call
         that stored it. Raises Damaged."""
         if stored.line is None:
+            self._hold_by(None)
             return
         try:
-            self.tickets.observe(Row.read(stored.line).ticket())
+            ticket = Row.read(stored.line).ticket()
+            self.tickets.observe(ticket)
+            self._hold_by(process_of(ticket))
         except (ValueError, KeyError, TypeError, IndexError) as error:
             raise Damaged(f"the line that is stored of {self.name} cannot be read: {error!r}") from error
+
+    def _hold_by(self, holder: int | None) -> None:
+        if holder != self.holder:
+            self.holder, self.holder_since = holder, self._now()
 
     async def refresh(self) -> None:
         """Looks whether another plane has written, and reads the lives of tasks. Calls do not wait for it."""
@@ -476,14 +489,45 @@ class Job:
         return self._held
 
     def _stand_by(self, stored: Stored) -> None:
-        """Raises Replaced if another plane wrote last, and not long enough ago."""
+        """Raises Replaced if another plane holds the job, and is not known to be gone."""
         if not self.settings.shared or stored.line is None:
             return
-        if process_of(Row.read(stored.line).ticket()) == self.settings.process:
-            return
-        left = self.settings.standby - self._seen.seconds()
-        if left > 0:
-            raise Replaced(left)
+        is_own = self.holder == self.settings.process and not self.is_given
+        if not is_own and not self._may_take(self):
+            raise Replaced(0)
+
+    def stands_still(self) -> bool:
+        """Whether the row stood still for so long that its plane counts as gone, if that does not beat."""
+        return self._seen.seconds() >= self.settings.standby
+
+    def is_elsewhere(self) -> bool:
+        """Whether another plane holds the job, as far as is known, and this one is not to take it."""
+        if self._held is not None or not self.settings.shared or self.holder is None:
+            return False
+        is_own = self.holder == self.settings.process and not self.is_given
+        return not is_own and not self._may_take(self)
+
+    async def take(self) -> None:
+        """Takes the table, if this plane may. Raises Replaced, Conflict and what a store raises."""
+        async with self._lock:
+            try:
+                await self._hold()
+            except BaseException:
+                self.drop()
+                raise
+
+    async def give_away(self) -> None:
+        """Drops the table after the calls that wait, for another plane to take it: this one takes it no more until
+        `keep` is called."""
+        await self.finish()
+        await self.settle()
+        async with self._lock:
+            self.is_given = True
+            self.drop()
+
+    def keep(self) -> None:
+        """Takes back that the job was given away."""
+        self.is_given = False
 
     async def _take_over(self, stored: Stored) -> Held:
         """Restores the table, and writes to the store that this plane holds it. The table of a job
@@ -526,6 +570,8 @@ class Job:
         line = log_line(self.name, LoggedCall(self.tickets.draw(), CALLS["restore"]), stored.kept)
         written = Row(row.ahead, [*self._log.gap(), line])
         version = await self._write((stored.version, stored.holder), stored.kept, written, rights)
+        self._hold_by(self.settings.process)
+        self.given_by, self.is_given = None, False
         self._log.append(line)
         self.grace = int(json.loads(stored.kept)["value"]["deadline"])
         self._counters.restored(self.name)
@@ -614,7 +660,7 @@ class Job:
             return
         except Conflict:
             self._counters.replaced(self.name)
-            error = Replaced(self.settings.standby)
+            error = Replaced(0)
         except (Replaced, Malformed, NoSuchJob) as why:  # before any call was played
             for one in together:
                 one.fail(why)
@@ -759,6 +805,7 @@ class Job:
         row = Row(max(0, last - at), [*self._log.gap(), *lines])
         held.version = await self._write((held.version, held.holder), kept, row, held.rights)
         held.saved, held.last, held.holder = kept, last, self.settings.incarnation
+        self._hold_by(self.settings.process)
 
     async def settle(self) -> None:
         """Stores just what is kept, if more was saved ahead: the next process then waits for no

@@ -44,6 +44,7 @@ ROLES: Mapping[str, frozenset[Role] | None] = {
     "POST /jobs/{job}/renew": ASSIGNERS,
     "POST /jobs/{job}/propose": ASSIGNERS,
     "POST /jobs/{job}/commit": ASSIGNERS,
+    "POST /jobs/{job}/hold": ADMINS,  # another plane gives the job away
 }
 
 

@@ -28,6 +28,7 @@ from hourstable.state import kept_in, state_folder
 from hourstable.store import DEADLINE, Store, open_store
 from hourstable.system import SYSTEM, System, make_folder
 from hourstable.tickets import CALLERS, Tickets
+from hourstable.transport import Http, Transport
 
 Access = tuple[Callers, ssl.SSLContext | None]
 log = logging.getLogger("hourstable.service")
@@ -43,7 +44,9 @@ class Options:
     port: int = 0  # 0: any
     process: int = 0  # its number among all planes and assigners, 0 to 63
     shared: bool | None = None  # whether other planes use the store; None: if they may
-    standby: float = 2.0  # seconds
+    standby: float = 2.0  # seconds for which a plane is silent before another one takes its jobs
+    address: str = ""  # the URL at which the other planes and its callers reach it; "": that of host and port
+    peer_tls: ssl.SSLContext | None = None  # with which it reaches the other planes
     assigner: int = 1  # its number, 0 for none
     secrets: list[str] = field(default_factory=list, repr=False)  # of callers who may do everything
     callers: Callers = field(default_factory=Callers)  # and others, with their roles
@@ -62,6 +65,7 @@ class ControlPlane:
 
     `opens` opens the store of a URL with a deadline, by default `open_store`; the store is closed at the end.
     `local_clock` is the clock that the tables' clocks go by, and `system` has the other clocks, chance and files.
+    `transport` brings the calls that it hands on to other planes, in place of HTTP; the plane closes it.
     """
 
     def __init__(
@@ -70,9 +74,11 @@ class ControlPlane:
         *,
         opens: Callable[[str, float, System], Awaitable[Store]] | None = None,
         local_clock: Callable[[], int] | None = None,
+        transport: Transport | None = None,
         system: System = SYSTEM,
     ) -> None:
         self.options = options
+        self._transport = transport or Http(options.peer_tls)
         self.plane: Plane | None = None  # from the start on, until it has stopped
         self.port = 0  # on which it listens
         self._opens = opens or open_store
@@ -81,7 +87,7 @@ class ControlPlane:
 
     async def start(self) -> int:
         """Listens, and returns the port. Raises ValueError if an option is refused, BlockingIOError if another
-        process draws its tickets, StoreFailed and OSError; then nothing is left open."""
+        process draws its tickets or beats under its number, StoreFailed and OSError; then nothing is left open."""
         try:
             async with AsyncExitStack() as ending:
                 self.port = await self._start(ending)
@@ -106,11 +112,13 @@ class ControlPlane:
             chosen.logs, process, shared, chosen.standby, local=local, system=system, keep_logs=chosen.keep_logs
         )
         callers = Callers.admins(chosen.secrets) + chosen.callers
-        plane = self.plane = Plane(store, settings, tickets, chosen.limits, callers, chosen.hosts)
+        plane = self.plane = Plane(
+            store, settings, tickets, chosen.limits, callers, chosen.hosts, self._transport
+        )
         plane.readiness.folders = folders
         plane.record = Record(state / f"record-{process}.ndjson", system)
         ending.push_async_callback(plane.stop)
-        port = await plane.start(chosen.host, chosen.port, chosen.tls, chosen.poll)
+        port = await plane.start(chosen.host, chosen.port, chosen.tls, chosen.poll, chosen.address)
         if chosen.assigner:
             plane.supervisor.watch("assigner", lambda: _assigner(chosen, plane, local, system).run())
         return port

@@ -132,6 +132,14 @@ class Store(ABC):
         did."""
 
     @abstractmethod
+    async def beats(self) -> dict[int, str]:
+        """Returns the texts that planes wrote in rows of their own, by the numbers of their processes."""
+
+    @abstractmethod
+    async def beat(self, process: int, text: str) -> dict[int, str]:
+        """Writes the text of a plane in its row, and returns those of all planes."""
+
+    @abstractmethod
     async def close(self) -> None:
         """Closes all connections. Nothing is asked later."""
 

@@ -18,13 +18,15 @@ from hourstable.waiting import within
 
 class EtcdStore(Store):
     """A store in some keys a job of etcd: /hourstable/policy/JOB, /hourstable/table/JOB, and others
-    beside it. A version is the revision at which the second was written.
+    beside it, and one a plane: /hourstable/planes/PROCESS. A version is the revision at which the
+    second was written.
 
     It asks one of the members, and another one after that one failed or was late."""
 
     name = "etcd"
     POLICY, TABLE, LIVES = "/hourstable/policy/", "/hourstable/table/", "/hourstable/lives/"
     ASSIGNMENTS, HOLDER, RIGHTS = "/hourstable/assignments/", "/hourstable/holder/", "/hourstable/rights/"
+    PLANES = "/hourstable/planes/"
 
     def __init__(
         self, members: Sequence[tuple[str, int]], tls: ssl.SSLContext | None = None,
@@ -93,8 +95,7 @@ class EtcdStore(Store):
         return int(told["header"]["revision"]) if told.get("succeeded") else None
 
     async def jobs(self) -> list[str]:
-        end = self.TABLE[:-1] + chr(ord("/") + 1)
-        body = {"key": _base64(self.TABLE), "range_end": _base64(end), "keys_only": True}
+        body = {**self._all_of(self.TABLE), "keys_only": True}
         found = (await self._read("range", body)).get("kvs", [])
         return sorted(_text(one["key"]).removeprefix(self.TABLE) for one in found)
 
@@ -164,6 +165,24 @@ class EtcdStore(Store):
     async def swap_lives(self, job: str, compared: Any, lives: str) -> bool:
         written = await self._write({self.LIVES + job: lives}, self.LIVES + job, compared)
         return written is not None
+
+    async def beats(self) -> dict[int, str]:
+        return self._beats_in(await self._read("range", self._all_of(self.PLANES)))
+
+    async def beat(self, process: int, text: str) -> dict[int, str]:
+        put = {"key": _base64(f"{self.PLANES}{process}"), "value": _base64(text)}
+        told = await self.in_time(self._ask("txn", {
+            "success": [{"request_put": put}, {"request_range": self._all_of(self.PLANES)}],
+        }))
+        return self._beats_in(told["responses"][1]["response_range"])
+
+    def _beats_in(self, found: dict[str, Any]) -> dict[int, str]:
+        rows = {_text(one["key"]).removeprefix(self.PLANES): _text(one["value"]) for one in found.get("kvs", [])}
+        return {int(number): text for number, text in rows.items() if number.isdecimal()}
+
+    def _all_of(self, prefix: str) -> dict[str, Any]:
+        """Returns what asks for all keys that begin so."""
+        return {"key": _base64(prefix), "range_end": _base64(prefix[:-1] + chr(ord("/") + 1))}
 
     async def close(self) -> None:
         session, self._session = self._session, None

@@ -109,8 +109,8 @@ class Pool:
 
 
 class PostgresqlStore(Store):
-    """A store in the table hourstable_jobs of a PostgreSQL database. A write is on the disk of the
-    server, and of its synchronous standbys, before it returns.
+    """A store in the tables hourstable_jobs and hourstable_planes of a PostgreSQL database. A write is
+    on the disk of the server, and of its synchronous standbys, before it returns.
 
     Once a connection is broken or late, all that are kept are dropped with it, as they are of the
     same server."""
@@ -146,6 +146,9 @@ class PostgresqlStore(Store):
                     "CREATE TABLE IF NOT EXISTS hourstable_jobs (job text PRIMARY KEY,"
                     " version bigint NOT NULL, policy text NOT NULL, kept text NOT NULL,"
                     " line text, lives text NOT NULL, assignments text, holder text, rights text)"
+                )
+                await connection.execute(
+                    "CREATE TABLE IF NOT EXISTS hourstable_planes (process integer PRIMARY KEY, text text NOT NULL)"
                 )
                 found = await connection.execute(
                     "SELECT column_name FROM information_schema.columns WHERE table_name = 'hourstable_jobs'"
@@ -258,6 +261,14 @@ class PostgresqlStore(Store):
     async def swap_lives(self, job: str, compared: Any, lives: str) -> bool:
         update = "UPDATE hourstable_jobs SET lives = %s WHERE job = %s AND lives = %s"
         return (await self._run(update, lives, job, compared))[1] == 1
+
+    async def beats(self) -> dict[int, str]:
+        return dict(await self._read("SELECT process, text FROM hourstable_planes"))
+
+    async def beat(self, process: int, text: str) -> dict[int, str]:
+        insert = "INSERT INTO hourstable_planes VALUES (%s, %s)"
+        await self._run(f"{insert} ON CONFLICT (process) DO UPDATE SET text = excluded.text", process, text)
+        return await self.beats()
 
     async def close(self) -> None:
         self._is_closed = True

@@ -164,6 +164,13 @@ class SqliteStore(Store):
         update = "UPDATE jobs SET lives = ? WHERE job = ? AND lives = ?"
         return await self._write(update, lives, job, compared) == 1
 
+    async def beats(self) -> dict[int, str]:
+        return dict(await self._read("SELECT process, text FROM planes"))
+
+    async def beat(self, process: int, text: str) -> dict[int, str]:
+        await self._write("REPLACE INTO planes VALUES (?, ?)", process, text)
+        return await self.beats()
+
     async def close(self) -> None:
         for connected in (self.reads, self.writes):
             with suppress(StoreFailed):
@@ -204,6 +211,9 @@ def _make_table(connection: sqlite3.Connection) -> None:
     )
     connection.execute(
         "CREATE TABLE IF NOT EXISTS rights (job TEXT PRIMARY KEY, holder TEXT NOT NULL, rights TEXT NOT NULL) STRICT"
+    )
+    connection.execute(
+        "CREATE TABLE IF NOT EXISTS planes (process INTEGER PRIMARY KEY, text TEXT NOT NULL) STRICT"
     )
 
 

@@ -83,7 +83,7 @@ async def run_plane(at: int, service: Service) -> None:
         state=service.host.disk.folder / "state",
     )
     opens = partial(open_shared, cluster)
-    running = ControlPlane(options, opens=opens, system=Machine(process))
+    running = ControlPlane(options, opens=opens, transport=transport_of(service), system=Machine(process))
     stopped = asyncio.Event()
     process.on_signal = stopped.set
     await running.start()

@@ -41,6 +41,7 @@ class Rows:
 
     def __init__(self) -> None:
         self.rows: dict[str, Row] = {}
+        self.planes: dict[int, str] = {}
 
     def jobs(self) -> list[str]:
         return sorted(self.rows)
@@ -78,6 +79,13 @@ class Rows:
         is_same: bool = row.lives == compared
         row.lives = lives if is_same else row.lives
         return is_same
+
+    def beats(self) -> dict[int, str]:
+        return dict(self.planes)
+
+    def beat(self, process: int, text: str) -> dict[int, str]:
+        self.planes[process] = text
+        return self.beats()
 
 
 class Engine:
@@ -185,6 +193,12 @@ class SharedStore(Store):
 
     async def swap_lives(self, job: str, compared: Any, lives: str) -> bool:
         return await self._do(lambda: self._rows.swap_lives(job, compared, lives), job, True)
+
+    async def beats(self) -> dict[int, str]:
+        return await self._do(self._rows.beats, "", False)
+
+    async def beat(self, process: int, text: str) -> dict[int, str]:
+        return await self._do(lambda: self._rows.beat(process, text), "", True)
 
     async def close(self) -> None:
         pass

@@ -24,6 +24,7 @@ from hourstable.store import Holding, Store, StoreFailed  # noqa: E402
 from hourstable.waiting import within  # noqa: E402
 from serving import HALF, POLICY, Answer, Caller, assignment, lines_of, running  # noqa: E402
 from stores import opened  # noqa: E402
+from waits import until  # noqa: E402
 
 WHOLE = [[0, [1]]]
 HALVES = [[0, [1]], [HALF, [2]]]
@@ -679,43 +680,43 @@ async def test_a_restart_after_saving_ahead_waits(file: Store, tmp_path: Path) -
 # Two planes ------------------------------------------------------------------------------------
 
 
-async def test_two_planes_never_both_write(url: str, job: str, tmp_path: Path) -> None:
-    """The second takes over when the first is still; the first then drops its table. Numbers of
+async def test_two_planes_never_both_write(
+    url: str, job: str, tmp_path: Path, monkeypatch: pytest.MonkeyPatch
+) -> None:
+    """The second takes over when the beat of the first stands still; the first then drops its table. Numbers of
     grants are not given twice, and readings do not fall."""
     logs = tmp_path / "logs"
+
+    async def silent(*_: object) -> None:
+        raise StoreFailed("no beat is written")
+
     async with (
-        opened(url) as first, running(first, logs, 0, True) as (one, a),
-        opened(url) as second, running(second, logs, 1, True) as (_, b),
+        opened(url) as first, running(first, logs, 40, True, 1.0) as (one, a),
+        opened(url) as second, running(second, logs, 41, True, 1.0) as (two, b),
     ):
         a.job = b.job = job
-        await a.create()
-        term = await a.take()
-        await a.post(f"propose?term={term}", assignment(1, WHOLE, job))
-        await a.post("commit", {"term": term})
-        told = [await a.grant(1)]
-        busy = await b.grant(1)
-        assert (busy.status, busy.json["refused"]) == (503, "replaced")
-        assert int(busy.headers["Retry-After"]) >= 1
-        await asyncio.sleep(0.5)
-        told.append(await b.grant(1))
-        await asyncio.sleep(0.2)
-        assert not one.jobs[job].job.is_held  # it looked, and dropped its table
-        replaced = await a.grant(1)
-        assert (replaced.status, replaced.json["refused"]) == (503, "replaced")
-        told.append(await b.grant(1))
-        await asyncio.sleep(0.5)
-        told.append(await a.grant(1))
-        assert [answer.status for answer in told] == [200] * 4
-        assert [answer.json["value"]["number"] for answer in told] == ["1", "2", "3", "4"]
+        await a.create({**POLICY, "guard": 10_000, "bridge": 10_000, "job": 20_000})
+        await a.change(await a.take(), 1, WHOLE)
+        await until(lambda: two.peers.others() == [40] and job in two.jobs and two.jobs[job].job.holder == 40)
+        told = [await a.grant(1), await b.grant(1)]
+        for silenced, other, callers in ((one, two, (b, a)), (two, one, (b, a))):
+            with monkeypatch.context() as patched:
+                patched.setattr(silenced.peers, "beat", silent)
+                await until(lambda: other.jobs[job].job.is_held)
+                await until(lambda: not silenced.jobs[job].job.is_held)  # it looked, and dropped its table
+                told += [await caller.grant(1) for caller in callers]
+            await until(lambda: other.peers.others() == [silenced.settings.process])
+        assert [answer.status for answer in told] == [200] * 6
+        assert [answer.json["value"]["number"] for answer in told] == ["1", "2", "3", "4", "5", "6"]
         readings = [answer.reading for answer in told]
         assert readings == sorted(readings)  # type: ignore[type-var]
         assert (await b.get("/assignment?after=0")).json["value"]["generation"] == "1"
     lines = lines_of(logs, job)
     assert [line["do"] for line in lines] == [
-        "take", "propose", "commit", "grant", "restore", "grant", "grant", "restore", "grant",
+        "take", "propose", "commit", "grant", "grant", "restore", "grant", "grant", "restore", "grant", "grant",
     ]
     restores = [line["file"].split(".")[0] for line in lines if line["do"] == "restore"]
-    assert restores == ["control-1", "control-0"]
+    assert restores == ["control-41", "control-40"]
 
 
 async def test_a_plane_that_was_replaced_unseen(file: Store, tmp_path: Path) -> None:

@@ -14,6 +14,7 @@ import needed
 needed.library()
 needed.engine("postgresql")
 
+from hourstable.calls import HOLDER  # noqa: E402
 from hourstable.control import Limits, Plane  # noqa: E402
 from hourstable.demo import engines  # noqa: E402
 from serving import POLICY, Answer, Caller, running  # noqa: E402
@@ -128,9 +129,10 @@ async def test_a_store_that_goes_on_lets_no_other_plane_take_over(kind: str, tmp
             engine.stop()
             await asyncio.sleep(6.0)
             engine.go_on()
-            while (told := await other.grant(1)).json.get("refused") == "store":
+            while (told := await other.grant(1)).status != 200:
+                assert (told.status, told.json["refused"]) in ((503, "store"), (503, "replaced")), told
                 await asyncio.sleep(0.01)
-            assert (told.status, told.json["refused"]) == (503, "replaced"), told
+            assert told.headers[HOLDER] == holder.url  # which did the call
             while (told := await holder.grant(1)).status != 200:
                 assert (told.status, told.json["refused"]) == (503, "store"), told
                 await asyncio.sleep(0.01)

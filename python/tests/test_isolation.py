@@ -385,17 +385,20 @@ def test_failures() -> None:
     failures = Failures()
     for at, what in enumerate(("read", "call", "read")):
         failures.failed("shop", what, OSError(5, "broken"), float(at))
-    assert failures.of("shop") == ("[Errno 5] broken", 0.0, 2, 2.0) and failures.of("cart") is None
+    assert failures.of("shop") == ("[Errno 5] broken", 0.0, 2, 2.0, False) and failures.of("cart") is None
     first = failures.of("shop")
     assert first is not None
     assert first.value(4.04) == {"why": "[Errno 5] broken", "seconds": 4.0, "tries": 2}
     failures.lapse("shop", "call", 1.0)
     failures.well("shop", "read")
-    assert failures.of("shop") == ("[Errno 5] broken", 1.0, 1, 1.0) and list(failures) == ["shop"]
+    assert failures.of("shop") == ("[Errno 5] broken", 1.0, 1, 1.0, False) and list(failures) == ["shop"]
     failures.lapse("shop", "call", 1.1)
     assert failures.of("shop") is None and "shop" not in failures
     failures.failed("shop", "read", KeyError("x"), 5.0)
+    failures.failed("cart", "read", StoreFailed("no answer"), 5.0)
+    assert failures.of_plane() == {"shop"} and "cart" in failures
     failures.forget("shop")
+    failures.forget("cart")
     assert list(failures) == []
 
 
