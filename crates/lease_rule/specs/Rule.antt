@@ -43,6 +43,11 @@ abbrev pub is_covered : Option SeenLease → Bool
 is_covered None = false
 is_covered (Some lease) = lease.covers
 
+-- the generation of a lease that is held and covers the key, whether or not it has ended
+abbrev pub covering_generation : Option SeenLease → Option ℕ
+covering_generation None = None
+covering_generation (Some lease) = when lease.covers lease.generation
+
 -- the generation of a lease that is held and live at the reading
 abbrev pub live_generation : ℕ → Option SeenLease → Option ℕ
 live_generation at None = None
@@ -53,6 +58,10 @@ abbrev pub greatest : Option ℕ → Option ℕ → Option ℕ
 greatest None second = second
 greatest (Some first) None = Some first
 greatest (Some first) (Some second) = Some (max first second)
+
+-- the greatest generation of the held leases that cover the key, live or ended
+abbrev pub newest_covering : SeenHolding → Option ℕ
+newest_covering h = greatest (covering_generation h.guard) (covering_generation h.bridge)
 
 -- the cases of the rule in their order
 abbrev pub rule_cases : SeenHolding → ℕ → List (Option Verdict)

@@ -11,4 +11,4 @@ pub use answer::{Ground, Verdict};
 pub use holding::Holding;
 pub use lease::{Kind, Lease};
 pub use permission::{live_keys, permitted};
-pub use rule::verdict;
+pub use rule::{covering_generation, greatest, verdict, verdict_and_newest};

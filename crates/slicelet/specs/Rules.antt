@@ -1,5 +1,5 @@
 -- The written rule over what a slicelet heard.
-use Rattle.std.specs.Prelude.{ℕ, Bool, List, Option, Some, None, option_map, if◌then◌else◌}
+use Rattle.std.specs.Prelude.{ℕ, Bool, List, option_map}
 use Rattle.lease_rule.specs.declared.lease.Kind.TheVariants.{Guard, Bridge}
 use Rattle.lease_rule.specs.declared.answer.Verdict.{Verdict}
 use Rattle.lease_rule.specs.Leases.{SeenLease}
@@ -34,8 +34,3 @@ covers_key key grant = has grant.lease.ranges key
 -- a key is permitted after these calls at a reading
 abbrev pub is_permitted : (Grant → Bool) → List SliceletCall → ℕ → Bool
 is_permitted covers h at = is_allowed (rule_after covers h at)
-
--- the generation of a held lease that covers the key, whether or not it has ended
-abbrev pub covering_generation : Option SeenLease → Option ℕ
-covering_generation None = None
-covering_generation (Some lease) = if lease.covers then Some lease.generation else None

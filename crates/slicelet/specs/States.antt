@@ -3,12 +3,12 @@ use Rattle.std.specs.Prelude.{ℕ, Bool, false, List, Option, None, option_map}
 use Rattle.lease_rule.specs.declared.lease.Kind.{Kind}
 use Rattle.lease_rule.specs.declared.lease.Kind.TheVariants.{Guard, Bridge}
 use Rattle.lease_rule.specs.declared.answer.Verdict.{Verdict}
-use Rattle.lease_rule.specs.Rule.{SeenHolding, rule, is_allowed, greatest}
+use Rattle.lease_rule.specs.Rule.{SeenHolding, rule, is_allowed, covering_generation, greatest}
 use Rattle.grants.specs.declared.values.Grant.{Grant}
 use Rattle.grants.specs.declared.slicelet_call.SliceletCall.{SliceletCall}
 use Rattle.slicelet.specs.declared.heard.HeldLease.{HeldLease}
 use Rattle.slicelet.specs.Calls.{count_of, is_started, life_of, resumed_of, last_reading, held_grant, greatest_heard}
-use Rattle.slicelet.specs.Rules.{seen_by, covers_key, covering_generation}
+use Rattle.slicelet.specs.Rules.{seen_by, covers_key}
 use Rattle.slicelet.specs.Stamping.{stamp_of, stamps_where, stamp_among}
 
 -- a slicelet: its task, how many calls it accepted, its life (0 before the first), the greatest life of earlier processes of its

@@ -2,15 +2,12 @@
 
 ghost use Rattle.std.specs.Prelude.{◌≡◌, ℕ, true, Some, None, is_some, option_map, IfOk};
 ghost use Rattle.slice_ranges.specs.Sets.{has};
-ghost use Rattle.lease_rule.specs.Leases.{seen_from};
-ghost use Rattle.lease_rule.specs.Rule.{greatest};
-ghost use Rattle.slicelet.specs.Rules.{covering_generation};
 ghost use Rattle.slicelet.specs.internals.State.{lease_of_kind, with_lease, heard_of_kind, with_heard, number_in, number_or_0};
 ghost use Rattle.slicelet.specs.internals.Stamping.{serves, Stays, ServesSame, ServesAll, RenewsBeside, Renews};
 
 use grants::Grant;
 use lease_rule::{Holding, Kind, Lease, live_keys};
-use slice_ranges::{Ranges, SliceKey};
+use slice_ranges::Ranges;
 use std::alloc::{AllocError, Global};
 
 /// What a slicelet keeps of a grant that it heard, besides the lease.
@@ -100,26 +97,6 @@ pub fn held_as(lease: &Option<Lease>, heard: Option<HeardGrant>) -> Option<HeldL
             ends: lease.ends,
         }),
         None => None,
-    }
-}
-
-/// Returns the generation of a lease that is held and covers the key, whether or not it has ended.
-pub fn covering(lease: &Option<Lease>, key: SliceKey) -> Option<u64>
-    ensures { result ≡ covering_generation (option_map (seen_from key) lease.now) }
-{
-    match lease {
-        Some(lease) if lease.covers(key) => Some(lease.generation),
-        _ => None,
-    }
-}
-
-/// Returns the greater of two generations, or the one that there is.
-pub fn greatest(first: Option<u64>, second: Option<u64>) -> Option<u64>
-    ensures { result ≡ greatest first second }
-{
-    match (first, second) {
-        (Some(first), Some(second)) => Some(first.max(second)),
-        (None, other) | (other, None) => other,
     }
 }
 

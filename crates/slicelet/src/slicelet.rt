@@ -18,14 +18,16 @@ ghost use Rattle.slicelet.specs.internals.State.{leases_of, with_lease};
 ghost use Rattle.slicelet.specs.internals.Stamping.{IsRestamped};
 
 use crate::heard::{
-    HeardGrants, HeldLease, covering, greatest, held_as, holds, live_keys_with, no_leases,
-    put_lease, renews,
+    HeardGrants, HeldLease, held_as, holds, live_keys_with, no_leases, put_lease, renews,
 };
 use crate::life_stamps::{copy_of, key_law, put_stamps, restamp, still};
 use assignment::TaskId;
 use grants::{EndedNotes, Grant, ReleaseNote, SliceletError, Stranger};
 use key_handle::{KeyHandle, Stamped};
-use lease_rule::{Ground, Holding, Kind, Lease, Verdict, permitted, verdict};
+use lease_rule::{
+    Ground, Holding, Kind, Lease, Verdict, covering_generation, greatest, permitted, verdict,
+    verdict_and_newest,
+};
 use machines::Trouble;
 use slice_ranges::{Ranges, SliceKey};
 use std::alloc::{AllocError, Global};
@@ -231,6 +233,18 @@ impl Slicelet {
         verdict(&self.holding, key, at)
     }
 
+    /// Returns what [`serve`](Self::serve) and [`newest_covering`](Self::newest_covering) return.
+    ///
+    /// The slicelet is unchanged.
+    pub fn serve_and_newest(&self, key: SliceKey, at: u64) -> (Verdict, Option<u64>)
+        ensures state { result.0 ≡ rule_in_state (covers_key key) self.now at }
+        ensures calls { (calls : List SliceletCall) → StandsAfter calls self.now
+            → result.0 ≡ rule_after (covers_key key) calls at }
+        ensures newest { result.1 ≡ newest_covering self.now key }
+    {
+        verdict_and_newest(&self.holding, key, at)
+    }
+
     /// Returns a handle on a key if the task may serve it at the reading `at`, in ticks.
     ///
     /// Otherwise returns why the task may not serve it. The slicelet is unchanged.
@@ -301,8 +315,8 @@ impl Slicelet {
         ensures { result ≡ covering_in self.now kind key }
     {
         match kind {
-            Kind::Guard => covering(&self.holding.guard, key),
-            Kind::Bridge => covering(&self.holding.bridge, key),
+            Kind::Guard => covering_generation(&self.holding.guard, key),
+            Kind::Bridge => covering_generation(&self.holding.bridge, key),
         }
     }
 

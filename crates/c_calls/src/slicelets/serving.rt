@@ -48,34 +48,6 @@ fn lease_under(
     }
 }
 
-// Returns the greatest generation of the held leases that cover a key that the rule allows.
-//
-// The lease that allows the key covers it, so only the other one is looked at.
-fn covering_beside(slicelet: &Slicelet, key: SliceKey, at: u64, kind: Kind, generation: u64) -> u64
-    requires { rule_at key slicelet.now at ≡ verdict.Allow kind generation }
-    ensures { result ≡ covering_number (newest_covering slicelet.now key) }
-{
-    let _ = at;
-    let other = match kind {
-        Kind::Guard => Kind::Bridge,
-        Kind::Bridge => Kind::Guard,
-    };
-    match slicelet.covering(other, key) {
-        Some(covering) => generation.max(covering),
-        None => generation,
-    }
-}
-
-// Returns the greatest generation of the held leases that cover a key; 0 if none does.
-fn newest_covering(slicelet: &Slicelet, key: SliceKey) -> u64
-    ensures { result ≡ covering_number (newest_covering slicelet.now key) }
-{
-    match slicelet.newest_covering(key) {
-        Some(generation) => generation,
-        None => 0,
-    }
-}
-
 /// Returns the lease under which the task may serve the keys of a slice key, or why it may not.
 ///
 /// Writes the greatest generation of the held leases that cover the keys, live or ended, to
@@ -86,14 +58,12 @@ pub fn serve_key(slicelet: &Slicelet, key: SliceKey, at: u64, covering: &mut u64
     ensures calls { (calls : List SliceletCall) → StandsAfter calls slicelet.now
         → IsServed (rule_at_after key calls at) slicelet.now result }
 {
-    match slicelet.serve(key, at) {
+    let (verdict, newest) = slicelet.serve_and_newest(key, at);
+    *covering = newest.unwrap_or(0);
+    match verdict {
         Verdict::Allow { kind, generation } => {
-            *covering = covering_beside(slicelet, key, at, kind, generation);
             Answer::Leased(lease_under(slicelet, key, at, kind, generation))
         }
-        Verdict::Deny(why) => {
-            *covering = newest_covering(slicelet, key);
-            Answer::Denied(why)
-        }
+        Verdict::Deny(why) => Answer::Denied(why),
     }
 }

@@ -3,7 +3,8 @@ use Rattle.std.specs.Prelude.{Option, Some, None, option_map}
 use Rattle.lease_rule.specs.declared.lease.Lease.{Lease}
 use Rattle.lease_rule.specs.Leases.{seen_from}
 use Rattle.slicelet.specs.declared.heard.HeardGrant.{HeardGrant}
-use Rattle.slicelet.specs.Rules.{seen_by, covers_key, covering_generation}
+use Rattle.lease_rule.specs.Rule.{covering_generation}
+use Rattle.slicelet.specs.Rules.{seen_by, covers_key}
 use Rattle.slicelet.specs.internals.State.{granted_as}
 use Rattle.slicelet.proofs.slicelet.Slicelet.covering.Goals as goal
 
@@ -14,8 +15,8 @@ as_granted key task life heard (Some lease) = refl
 
 pub returns-in-Guard : goal.returns-in-Guard
 returns-in-Guard c = rw (c.in-Guard.is, sym c.self.view_is)
-    (c.covering.ensures ∙ as_granted c.args.key c.self.inside.task c.self.inside.life c.self.inside.heard.guard c.self.inside.holding.guard)
+    (c.covering_generation.ensures ∙ as_granted c.args.key c.self.inside.task c.self.inside.life c.self.inside.heard.guard c.self.inside.holding.guard)
 
 pub returns-in-Bridge : goal.returns-in-Bridge
 returns-in-Bridge c = rw (c.in-Bridge.is, sym c.self.view_is)
-    (c.covering-in-Bridge.ensures ∙ as_granted c.args.key c.self.inside.task c.self.inside.life c.self.inside.heard.bridge c.self.inside.holding.bridge)
+    (c.covering_generation-in-Bridge.ensures ∙ as_granted c.args.key c.self.inside.task c.self.inside.life c.self.inside.heard.bridge c.self.inside.holding.bridge)
