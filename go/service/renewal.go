@@ -231,6 +231,9 @@ func (t *Task) refused(life uint32, body []byte) (time.Duration, error) {
 	switch told.Refused {
 	case "waiting", "overtaken":
 		return t.notLetIn(life, told)
+	case "evicted":
+		t.config.Logger.Error("an operator lets this life have no more leases; the process ends", "life", life)
+		return 0, ErrOvertaken
 	case "no-assignment":
 		return 500 * time.Millisecond, nil
 	}

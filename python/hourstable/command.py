@@ -54,6 +54,8 @@ def parser() -> argparse.ArgumentParser:
     _control_words(subcommands.add_parser("control", help="run a control plane"))
     _assigner_words(subcommands.add_parser("assigner", help="run an assigner beside the planes"))
     _drain_words(subcommands.add_parser("drain", help="let a task own no more keys"))
+    _evict_words(subcommands.add_parser("evict", help="let another process of a task in"))
+    _end_words(subcommands.add_parser("end", help="end a job"))
     _doctor_words(subcommands.add_parser("doctor", help="say what ails a control plane, and what to do"))
     _audit_words(subcommands.add_parser("audit", help="audit the logs of a job"))
     _demo_words(subcommands.add_parser("demo", help="run a cache, break it, and audit it"))
@@ -161,6 +163,21 @@ def _drain_words(words: argparse.ArgumentParser) -> None:
                        help="wait so long until it owns no keys (0: do not wait)")
     words.add_argument("job")
     words.add_argument("task", type=int)
+
+
+def _evict_words(words: argparse.ArgumentParser) -> None:
+    words.set_defaults(run=_evict)
+    _caller_words(words)
+    words.add_argument("--favour", type=int, default=0, metavar="LIFE",
+                       help="the life of a process that waits, which alone is let in then")
+    words.add_argument("job")
+    words.add_argument("task", type=int)
+
+
+def _end_words(words: argparse.ArgumentParser) -> None:
+    words.set_defaults(run=_end)
+    _caller_words(words)
+    words.add_argument("job")
 
 
 def _doctor_words(words: argparse.ArgumentParser) -> None:
@@ -417,6 +434,40 @@ async def _run_drain(chosen: argparse.Namespace) -> int:
     finally:
         await desk.close()
     return 0
+
+
+def _evict(chosen: argparse.Namespace) -> int:
+    if not 1 <= chosen.task <= 64:
+        raise ValueError("a task is 1 to 64")
+    return asyncio.run(_run_evict(chosen))
+
+
+async def _run_evict(chosen: argparse.Namespace) -> int:
+    """Evicts the life of a task that is let in, and says which it was."""
+    desk = desk_of(chosen, NoTickets())
+    try:
+        life = await desk.evict(chosen.job, chosen.task, chosen.favour)
+    finally:
+        await desk.close()
+    print(f"task {chosen.task}: {f'life {life} gets no more leases' if life else 'no life is let in'}")
+    return 0
+
+
+def _end(chosen: argparse.Namespace) -> int:
+    return asyncio.run(_run_end(chosen))
+
+
+async def _run_end(chosen: argparse.Namespace) -> int:
+    """Ends a job, and waits until none of its leases lasts."""
+    desk = desk_of(chosen, NoTickets())
+    try:
+        while True:
+            state, after = await desk.end(chosen.job)
+            if state == "ended":
+                return 0
+            await asyncio.sleep(max(0.1, after))
+    finally:
+        await desk.close()
 
 
 def owners_in(assignment: bytes | None) -> set[int]:

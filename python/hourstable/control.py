@@ -43,7 +43,7 @@ from hourstable.peers import Peers
 from hourstable.readiness import Readiness
 from hourstable.record import Record
 from hourstable.request_ids import name_answer, traced
-from hourstable.rights import SECRET, Asked, NotAdmitted, Rights, WrongKey
+from hourstable.rights import SECRET, Asked, JobEnds, NotAdmitted, Rights, WrongKey
 from hourstable.store import Conflict, Damaged, LivesSpent, NoSuchJob, Store, StoreFailed
 from hourstable.supervisor import Supervisor
 from hourstable.table_calls import Call, Commit, Free, Grant, Malformed, Propose, Renew, Take, term_of
@@ -66,7 +66,7 @@ log = logging.getLogger("hourstable.control")
 
 
 REFUSED = (  # what says nothing against a job
-    Malformed, NoSuchJob, Conflict, LivesSpent, Limited, Replaced, NotAdmitted, WrongKey,
+    Malformed, NoSuchJob, Conflict, LivesSpent, Limited, Replaced, NotAdmitted, WrongKey, JobEnds,
 )
 EXPECTED = StoreFailed, OSError, MemoryError, Malformed, ValueError  # of a job that fails, or of its store
 ANSWERED = (*REFUSED, Turned, StoreFailed, OSError, MemoryError, web.HTTPException)
@@ -454,15 +454,19 @@ class Plane:
                                 f" {LEAST_GUARD} and usually 10000")
             self._job(name).try_log()  # a job whose log cannot be opened is not stored
             try:
-                rights = Rights(self.settings.system.secret(SECRET))
+                rights = Rights(self.settings.system.secret(SECRET), await self._job(name).draw_epoch())
                 await self.store.create(name, text, kept, rights.text(None))
                 self.record.add("create", name, policy=members)
                 await self.followed(name)
                 return True
             except Conflict:
                 pass
-        if (await self.followed(name)).job.members != members:
+        job = (await self.followed(name)).job
+        if job.members != members:
             raise Conflict("the job has another policy")
+        if job.rights.state:
+            await job.begin_again()
+            self.record.add("create", name, policy=members)
         return False
 
     async def status(self, name: str) -> dict[str, Any]:
@@ -480,6 +484,7 @@ class Plane:
             "alive": followed.alive(now), "draining": followed.draining(),
             "since_commit": round(now - job.last_commit, 3), "admitted": job.admitted(),
             "grace": round(job.grace_left() / 1000, 3),
+            "epoch": job.rights.epoch or None, "state": job.rights.state or None,
         }
 
     def shown(self) -> list[Shown]:
@@ -513,6 +518,8 @@ class Plane:
             web.post("/jobs/{job}/commit", self._carried(self._post_commit)),
             web.post("/jobs/{job}/drain", self._post_drain),
             web.post("/jobs/{job}/hold", self._post_hold),
+            web.post("/jobs/{job}/evict", self._post_evict),
+            web.delete("/jobs/{job}", self._delete_job),
             web.get("/jobs/{job}", self._get_job),
             web.put("/jobs/{job}", self._put_job),
             web.get("/jobs", self._get_jobs),
@@ -617,6 +624,8 @@ class Plane:
                 return failure(409, str(error))
             case NotAdmitted():
                 return not_admitted(error)
+            case JobEnds():
+                return failure(409, str(error), refused="ending")
             case WrongKey():
                 return failure(403, str(error), refused="key")
             case Limited():
@@ -754,6 +763,21 @@ class Plane:
         await followed.job.drain(task)
         self.record.add("drain", followed.job.name, task=task, life=followed.job.lives[task].life)
         return web.Response(status=204)
+
+    async def _post_evict(self, request: web.Request) -> web.Response:
+        followed, given = await self.followed(job_in(request)), await json_of(request)
+        task = member(given, "task", TASKS)
+        note(task=task)
+        favoured = member(given, "favour", LIVES) if "favour" in given else 0
+        life = await followed.job.evict(task, favoured)
+        self.record.add("evict", followed.job.name, task=task, life=life)
+        return answer_of({"life": life})
+
+    async def _delete_job(self, request: web.Request) -> web.Response:
+        followed = await self.followed(job_in(request))
+        state, after = await followed.job.end()
+        self.record.add("end", followed.job.name, state=state)
+        return answer_of({"state": state, "after": after})
 
     async def _post_life(self, request: web.Request) -> web.Response:
         followed = await self.followed(job_in(request))

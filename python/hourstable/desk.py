@@ -250,6 +250,16 @@ class HttpDesk:
         body = json.dumps({"task": task}).encode()
         await self._read(_nothing_in, "POST", job, f"/jobs/{job}/drain", body)
 
+    async def evict(self, job: str, task: int, favour: int) -> int:
+        """Gives the life of a task that is let in no more leases, and lets a favoured one in next, if it is not 0.
+        Returns the life that was let in."""
+        body = {"task": task, "favour": favour} if favour else {"task": task}
+        return await self._read(_life_in, "POST", job, f"/jobs/{job}/evict", json.dumps(body).encode())
+
+    async def end(self, job: str) -> tuple[str, float]:
+        """Ends a job, and returns `ending` with the seconds that leases may last, or `ended`."""
+        return await self._read(_ending_in, "DELETE", job, f"/jobs/{job}")
+
     async def close(self) -> None:
         """Closes all connections."""
         await self._own.close()
@@ -265,6 +275,17 @@ def _value_in(reply: Reply) -> dict[str, Any]:
 def _nothing_in(reply: Reply) -> None:
     if reply.status != 204:
         raise ValueError(f"{reply.status} in place of 204")
+
+
+def _life_in(reply: Reply) -> int:
+    return int(_value_in(reply)["life"])
+
+
+def _ending_in(reply: Reply) -> tuple[str, float]:
+    value = _value_in(reply)
+    if value["state"] not in ("ending", "ended"):
+        raise ValueError("state is of another form")
+    return value["state"], float(value["after"])
 
 
 def _names_in(reply: Reply) -> list[str]:

@@ -26,15 +26,18 @@ from hourstable import library, logs
 from hourstable.clock import JobClock
 from hourstable.kept_log import KeptLog
 from hourstable.library import CALLS, LoggedCall, Policy, Refused, Table, log_line
-from hourstable.rights import SECRET, NotAdmitted, Rights, WrongKey
+from hourstable.rights import (
+    ENDED_JOB, ENDING, MOST_EPOCH, SECRET, JobEnds, NotAdmitted, Rights, WrongKey,
+)
 from hourstable.standstill import Standstill
 from hourstable.store import Conflict, Damaged, Holding, Life, NoSuchJob, Store, Stored, StoreFailed
 from hourstable.system import SYSTEM, System, make_folder
-from hourstable.table_calls import Call, Grant, Malformed, numbers_of, term_in, value_in
+from hourstable.table_calls import Call, Free, Grant, Malformed, numbers_of, term_in, value_in
 from hourstable.tickets import Tickets, process_of
 
 log = logging.getLogger("hourstable.jobs")
 T = TypeVar("T")
+SPARE = 5  # of a guard term, for which a favoured life alone is let in after the rows have ended
 MOST_TOGETHER = 256  # calls that are stored by one write
 WORDS = ("skew", "guard", "bridge", "job", "numbers")
 
@@ -369,6 +372,68 @@ class Job:
         self._seen.saw(version, self._now() - begun)
         return False
 
+    async def draw_epoch(self) -> int:
+        """Returns the epoch of a job, which the store gives out once. Raises StoreFailed."""
+        epoch = await self.ask("epoch", self._store.draw_epoch)
+        if epoch > MOST_EPOCH:
+            raise StoreFailed("no epoch is left")
+        return epoch
+
+    async def evict(self, task: int, favoured: int) -> int:
+        """Gives the life of a task that is let in no more leases. Returns it, 0 if there is none."""
+        assert self.policy is not None
+        spare = self.policy.guard // SPARE
+
+        def evict(held: Held, at: int) -> int:
+            return held.rights.evict(task, favoured, max(at, held.ends_of(task, at)) + spare)
+
+        return await self._change_rights(evict)
+
+    async def end(self) -> tuple[str, float]:
+        """Lets no plane give leases from now on. Returns `ending` and for how many seconds leases may last, or
+        `ended` once none does."""
+
+        def end(held: Held, at: int) -> tuple[str, float]:
+            left = max(0, deadline_in(held.saved) - at)
+            state = ENDING if left else ENDED_JOB
+            if held.rights.state != state:
+                held.rights.state, held.rights.is_changed = state, True
+            return state, left / 1000
+
+        return await self._change_rights(end)
+
+    async def begin_again(self) -> None:
+        """Goes on with a job that has ended, with its lives, numbers and deadlines. Raises JobEnds while it ends."""
+
+        def begin(held: Held, at: int) -> None:
+            if at < deadline_in(held.saved):
+                raise JobEnds(f"{self.name} is {held.rights.state}")
+            held.rights.state, held.rights.is_changed = "", True
+
+        await self._change_rights(begin)
+
+    async def _change_rights(self, change: Callable[[Held, int], T]) -> T:
+        """Changes who may act, and stores that with the last line once more. Raises Replaced, StoreFailed and
+        NoSuchJob."""
+        async with self._lock:
+            try:
+                held = await self._hold()
+                made = change(held, await held.clock.wait())
+                if held.rights.is_changed:
+                    row = Row(max(0, held.last - held.at), [held.line]) if held.line is not None else None
+                    held.version = await self._write((held.version, held.holder), held.saved, row, held.rights)
+                    held.holder = self.settings.incarnation
+                return made
+            except Conflict as error:
+                self._counters.replaced(self.name)
+                self.drop()
+                raise Replaced(self.settings.standby) from error
+            except (Replaced, JobEnds):
+                raise
+            except BaseException:
+                self.drop()  # the rights may say what the store has not
+                raise
+
     async def read_lives(self) -> None:
         """Reads the lives of tasks. Raises NoSuchJob."""
         self.know(await self.ask("lives", self._store.lives, self.name))
@@ -555,6 +620,9 @@ class Job:
         rights = Rights.read(self.name, stored.rights) if stored.rights else Rights(b"")
         if not rights.secret:
             rights.secret = self.settings.system.secret(SECRET)
+        if not rights.epoch:
+            rights.epoch = await self.draw_epoch()
+            rights.is_changed = True
         if not stored.rights or rights.ticket != ticket:
             await self.read_lives()
             rights.after_older(self.lives, deadline_in(stored.kept))
@@ -711,11 +779,13 @@ class Job:
                 one.tell(Made(repeated, None, None))
                 continue
             try:
+                if held.rights.state and not isinstance(call, Free):
+                    raise JobEnds(f"{self.name} is {held.rights.state}")
                 call.admit(self, held, at)
             except NotAdmitted as why:
                 denied.append((one, why))
                 continue
-            except (Malformed, WrongKey) as error:
+            except (Malformed, WrongKey, JobEnds) as error:
                 one.fail(error)
                 continue
             made = self._play_one(held, one, at)

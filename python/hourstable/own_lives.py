@@ -16,7 +16,7 @@ from typing import Any, NamedTuple
 from .system import SYSTEM, System, make_folder
 
 MOST_KEPT = 4  # keys in the file
-WAITING, OVERTAKEN = "waiting", "overtaken"  # words for why a life gets no lease
+WAITING, OVERTAKEN, EVICTED = "waiting", "overtaken", "evicted"  # words for why a life gets no lease
 
 
 class Life(NamedTuple):

@@ -16,11 +16,13 @@ from collections.abc import Mapping
 from dataclasses import dataclass, field
 from typing import Any, NamedTuple
 
-from hourstable.own_lives import OVERTAKEN, WAITING
+from hourstable.own_lives import EVICTED, OVERTAKEN, WAITING
 from hourstable.store import Damaged, Life
 
 VERSION = 1  # of the text; a newer one is refused
 SECRET = 32  # bytes of the secret of a row
+ENDING, ENDED_JOB = "ending", "ended"  # states of a job that was deleted
+MOST_EPOCH = (1 << 32) - 1
 ENDED = 1 << 32  # the number in the note of a life that has ended, which closes all of its rows
 
 
@@ -31,6 +33,10 @@ class NotAdmitted(Exception):
     def __init__(self, word: str, admitted: int, after: float | None = None) -> None:
         super().__init__(f"{word}: life {admitted} is let in")
         self.word, self.admitted, self.after = word, admitted, after
+
+
+class JobEnds(Exception):
+    """The job was deleted: no lease is given and nothing is proposed."""
 
 
 class WrongKey(Exception):
@@ -76,16 +82,23 @@ class Seat:
     deadline: int = 0
     keyed: bool | None = None
     place: Place = Place()
+    is_evicted: bool = False  # the life gets no more leases, and its key is void
+    favoured: int = 0  # the life that alone is let in until the reading `reserved`
+    reserved: int = 0
 
     def value(self) -> dict[str, Any]:
         made: dict[str, Any] = {"life": self.life, "deadline": self.deadline, "keyed": self.keyed}
         if any(self.place):
             made["place"] = list(self.place)
+        if self.is_evicted:
+            made |= {"evicted": True, "favoured": self.favoured, "reserved": self.reserved}
         return made
 
     @classmethod
     def of(cls, value: Mapping[str, Any]) -> "Seat":
-        return cls(int(value["life"]), int(value["deadline"]), value.get("keyed"), Place(*value.get("place", ())))
+        evicted = bool(value.get("evicted")), int(value.get("favoured", 0)), int(value.get("reserved", 0))
+        place = Place(*value.get("place", ()))
+        return cls(int(value["life"]), int(value["deadline"]), value.get("keyed"), place, *evicted)
 
 
 @dataclass
@@ -94,6 +107,8 @@ class Rights:
     another line was written by a version up to 1.0, which lets any life in."""
 
     secret: bytes
+    epoch: int = 0  # of the job, which no other job of its store ever has; 0 for none yet
+    state: str = ""  # or ENDING: no lease is given; or ENDED_JOB: none lasts
     seats: dict[int, Seat] = field(default_factory=dict)
     ticket: int | None = None
     is_changed: bool = False  # since it was read or written
@@ -109,14 +124,19 @@ class Rights:
                     f" {VERSION}: run a newer one"
                 )
             seats = {int(task): Seat.of(it) for task, it in value["tasks"].items()}
-            return cls(bytes.fromhex(value["secret"]), seats, value["ticket"])
+            epoch, state = int(value.get("epoch", 0)), str(value.get("state", ""))
+            return cls(bytes.fromhex(value["secret"]), epoch, state, seats, value["ticket"])
         except (ValueError, KeyError, TypeError, AttributeError) as error:
             raise Damaged(f"the rights that are stored of {job} cannot be read: {error!r}") from error
 
     def text(self, ticket: int | None) -> str:
         """Returns the text that is written with a line of this ticket."""
         tasks = {str(task): seat.value() for task, seat in sorted(self.seats.items())}
-        value = {"version": VERSION, "ticket": ticket, "secret": self.secret.hex(), "tasks": tasks}
+        value: dict[str, Any] = {
+            "version": VERSION, "ticket": ticket, "secret": self.secret.hex(), "epoch": self.epoch, "tasks": tasks,
+        }
+        if self.state:
+            value["state"] = self.state
         return json.dumps(value, separators=(",", ":"))
 
     def after_older(self, lives: Mapping[int, Life], deadline: int) -> None:
@@ -159,6 +179,10 @@ class Rights:
             raise NotAdmitted(OVERTAKEN, seat.life)
         if asked.key and not self._is_key(task, life, asked.key):
             raise WrongKey(task, life)
+        if life == seat.life and seat.is_evicted:
+            raise NotAdmitted(EVICTED, seat.life)
+        if life != seat.favoured and at < seat.reserved:
+            raise NotAdmitted(WAITING, seat.life, (seat.reserved - at) / 1000)
         if life == seat.life and seat.keyed is False and asked.key:
             raise NotAdmitted(OVERTAKEN, seat.life)
         if life == seat.life and seat.keyed and not asked.key:
@@ -168,7 +192,7 @@ class Rights:
 
     def _is_next(self, asked: Asked, seat: Seat) -> bool:
         """Whether a life takes the place of the one that is let in."""
-        if not (seat.keyed and asked.key and asked.place.follows(seat.place)):
+        if not (seat.keyed and asked.key and not seat.is_evicted and asked.place.follows(seat.place)):
             return False
         return any(life == seat.life and self._is_key(asked.task, life, key) for life, key in asked.shown)
 
@@ -177,6 +201,17 @@ class Rights:
         seat = self.seat(asked.task)
         if asked.life != seat.life or seat.keyed is None:
             seat.life, seat.keyed, seat.place, self.is_changed = asked.life, bool(asked.key), asked.place, True
+            seat.is_evicted, seat.favoured, seat.reserved = False, 0, 0
+
+    def evict(self, task: int, favoured: int, reserved: int) -> int:
+        """Gives the life that is let in no more leases, and voids its key. With a favoured life no other one is let
+        in until a reading. Returns the life that was let in, 0 if there is none."""
+        seat = self.seat(task)
+        if not seat.life:
+            return 0
+        seat.is_evicted, self.is_changed = True, True
+        seat.favoured, seat.reserved = (favoured, reserved) if favoured > seat.life else (0, 0)
+        return seat.life
 
     def reach(self, task: int, deadline: int) -> None:
         """Takes that a task may have leases up to a deadline."""

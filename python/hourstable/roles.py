@@ -40,6 +40,8 @@ ROLES: Mapping[str, frozenset[Role] | None] = {
     "POST /jobs/{job}/free": TASKS,
     "POST /jobs/{job}/loads": TASKS,
     "POST /jobs/{job}/drain": TASKS,
+    "POST /jobs/{job}/evict": ADMINS,
+    "DELETE /jobs/{job}": ADMINS,
     "POST /jobs/{job}/take": ASSIGNERS,
     "POST /jobs/{job}/renew": ASSIGNERS,
     "POST /jobs/{job}/propose": ASSIGNERS,

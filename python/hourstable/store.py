@@ -140,6 +140,10 @@ class Store(ABC):
         """Writes the text of a plane in its row, and returns those of all planes."""
 
     @abstractmethod
+    async def draw_epoch(self) -> int:
+        """Returns a number that no other call of the store returns, from 1 on."""
+
+    @abstractmethod
     async def close(self) -> None:
         """Closes all connections. Nothing is asked later."""
 

@@ -10,7 +10,9 @@ from typing import Any
 
 import aiohttp
 
-from hourstable.store import DEADLINE, Conflict, Damaged, Holding, NoSuchJob, Store, Stored, StoreFailed
+from hourstable.store import (
+    DEADLINE, TRIES, Conflict, Damaged, Holding, NoSuchJob, Store, Stored, StoreFailed,
+)
 from hourstable.store_rows import Rows
 from hourstable.system import SYSTEM, System
 from hourstable.waiting import within
@@ -25,6 +27,7 @@ class EtcdStore(Store):
 
     name = "etcd"
     POLICY, TABLE, LIVES = "/hourstable/policy/", "/hourstable/table/", "/hourstable/lives/"
+    EPOCH = "/hourstable/epoch"
     ASSIGNMENTS, HOLDER, RIGHTS = "/hourstable/assignments/", "/hourstable/holder/", "/hourstable/rights/"
     PLANES = "/hourstable/planes/"
 
@@ -183,6 +186,14 @@ class EtcdStore(Store):
     def _all_of(self, prefix: str) -> dict[str, Any]:
         """Returns what asks for all keys that begin so."""
         return {"key": _base64(prefix), "range_end": _base64(prefix[:-1] + chr(ord("/") + 1))}
+
+    async def draw_epoch(self) -> int:
+        for _ in range(TRIES):
+            found = (await self._read("range", {"key": _base64(self.EPOCH)})).get("kvs")
+            before, revision = (int(_text(found[0]["value"])), int(found[0]["mod_revision"])) if found else (0, 0)
+            if await self._write({self.EPOCH: str(before + 1)}, self.EPOCH, revision) is not None:
+                return before + 1
+        raise StoreFailed(f"etcd: other writers drew an epoch first {TRIES} times")
 
     async def close(self) -> None:
         session, self._session = self._session, None

@@ -150,6 +150,9 @@ class PostgresqlStore(Store):
                 await connection.execute(
                     "CREATE TABLE IF NOT EXISTS hourstable_planes (process integer PRIMARY KEY, text text NOT NULL)"
                 )
+                await connection.execute(
+                    "CREATE TABLE IF NOT EXISTS hourstable_counters (name text PRIMARY KEY, value bigint NOT NULL)"
+                )
                 found = await connection.execute(
                     "SELECT column_name FROM information_schema.columns WHERE table_name = 'hourstable_jobs'"
                 )
@@ -269,6 +272,13 @@ class PostgresqlStore(Store):
         insert = "INSERT INTO hourstable_planes VALUES (%s, %s)"
         await self._run(f"{insert} ON CONFLICT (process) DO UPDATE SET text = excluded.text", process, text)
         return await self.beats()
+
+    async def draw_epoch(self) -> int:
+        rows, _ = await self._run(
+            "INSERT INTO hourstable_counters VALUES ('epoch', 1)"
+            " ON CONFLICT (name) DO UPDATE SET value = hourstable_counters.value + 1 RETURNING value"
+        )
+        return int(rows[0][0])
 
     async def close(self) -> None:
         self._is_closed = True

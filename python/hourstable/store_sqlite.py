@@ -171,6 +171,9 @@ class SqliteStore(Store):
         await self._write("REPLACE INTO planes VALUES (?, ?)", process, text)
         return await self.beats()
 
+    async def draw_epoch(self) -> int:
+        return await self.in_time(self.writes.run(_drawn_epoch))
+
     async def close(self) -> None:
         for connected in (self.reads, self.writes):
             with suppress(StoreFailed):
@@ -210,11 +213,21 @@ def _make_table(connection: sqlite3.Connection) -> None:
         "CREATE TABLE IF NOT EXISTS assignments (job TEXT PRIMARY KEY, parts TEXT NOT NULL) STRICT"
     )
     connection.execute(
+        "CREATE TABLE IF NOT EXISTS counters (name TEXT PRIMARY KEY, value INTEGER NOT NULL) STRICT"
+    )
+    connection.execute(
         "CREATE TABLE IF NOT EXISTS rights (job TEXT PRIMARY KEY, holder TEXT NOT NULL, rights TEXT NOT NULL) STRICT"
     )
     connection.execute(
         "CREATE TABLE IF NOT EXISTS planes (process INTEGER PRIMARY KEY, text TEXT NOT NULL) STRICT"
     )
+
+
+def _drawn_epoch(connection: sqlite3.Connection) -> int:
+    found = connection.execute(
+        "INSERT INTO counters VALUES ('epoch', 1) ON CONFLICT (name) DO UPDATE SET value = value + 1 RETURNING value"
+    ).fetchall()
+    return int(found[0][0])
 
 
 def _written(connection: sqlite3.Connection, writes: list[Write]) -> list[int | Exception]:

@@ -34,7 +34,7 @@ from .leases import KINDS, ClockBehind, Entered, Leases, policy_of
 from .library import Policy, Refused, TaskClock, ended_note, slice_key
 from .logs import TASKS, Log, NoLog, folder_of, job_line
 from .moves import Moves, OnGain, OnLose
-from .own_lives import OVERTAKEN, WAITING, Life, OwnLives
+from .own_lives import EVICTED, OVERTAKEN, WAITING, Life, OwnLives
 from .phases import Phases
 from .ranges import KEYS, Ranges, holds, minus
 from .state import state_folder, tickets_in
@@ -484,6 +484,7 @@ class Task:
                 seconds = backoff.seconds()
             except (ClockBroken, Overtaken) as broken:
                 self._broken = broken
+                await self._give_all()
                 self._close_life()
                 self._over.set()
                 return
@@ -576,6 +577,14 @@ class Task:
         self._leases = None
         leases.close()
 
+    async def _give_all(self) -> None:
+        """Gives back the leases that the task still has, if planes answer, before it ends."""
+        try:
+            if self._leases is not None and self._leases.held:
+                await within(2 * self._patience + TIMEOUT, self._end_life())
+        except (Unreachable, TimeoutError, Refused, ClockBehind) as why:
+            logger.warning("task %d ends with leases that were not freed: %s", self.task, why)
+
     async def _leave_life(self) -> None:
         """Ends the life after its blocks, without a line of the log, which has not its other lines."""
         leases = self._leases
@@ -667,6 +676,10 @@ class Task:
         word = told.refused
         if word in (WAITING, OVERTAKEN):
             return self._not_let_in(life, told)
+        if word == EVICTED:
+            why = f"task {self.task}: an operator lets life {life} have no more leases; this process ends"
+            logger.error(why)
+            raise Overtaken(why)
         if word == "no-assignment":
             return 0.5
         logger.warning("task %d: the table refused a grant: %s", self.task, word)

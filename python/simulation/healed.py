@@ -17,8 +17,8 @@ RENEWALS = 2  # that each task must make in the time
 SOME_FILES = 3  # beside a log for each job
 MOST_KEPT = 100  # elements of the containers of a process that stand at one place
 MORE_KEPT = 60  # of them after two guard terms in which nothing fails
-RECORDS = {  # places whose containers leave out the oldest of more elements than they are to have
-    "Lanes.stretches", "Lanes.terms", "Lanes.phases", "Lanes.events", "Job.notes", "Record._shown",
+RECORDS = {  # places that keep a number of the newest, or what each task has
+    "Lanes.stretches", "Lanes.terms", "Lanes.phases", "Lanes.events", "Lanes.given", "Job.notes", "Record._shown",
 }
 LOOKS = 10  # at the keys that nobody serves, in a guard term
 CALLS_SETTLE = 20  # looks at which a plane may be busy before it counts as one that waits

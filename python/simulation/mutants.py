@@ -41,7 +41,7 @@ MUTANTS = (
         "        newest = await self._store.load(self.name)\n"
         "        given = (self.name, newest.version, *given[2:4], holding._replace(before=newest.holder))\n"
         "        written = await self.ask(\"swap\", self._store.swap, *given)\n",
-    ),), seeds="36"),
+    ),), seeds="6"),
     Mutant("ticket-before-claim", "jobs.py", (
         ("        self._waiting.append(Waiting(call, answer))\n",
          "        call.drawn = self.tickets.draw()\n        self._waiting.append(Waiting(call, answer))\n"),
@@ -70,8 +70,8 @@ MUTANTS = (
         "    ticks = lambda: int(system.monotonic() * 1000)",
     ),), seeds="28"),
     Mutant("sent-is-late", "calls.py", ((
-        "        return _taken(url, status, headers, found, sent)",
-        "        return _taken(url, status, headers, found, self.local_clock())",
+        "        made = _taken(url, status, headers, found, sent)",
+        "        made = _taken(url, status, headers, found, self.local_clock())",
     ),), seeds="6"),
     Mutant("life-twice", "store.py", ((
         "            return Life(life.life + 1, life.drained)",
@@ -84,7 +84,7 @@ MUTANTS = (
     Mutant("no-lock", "jobs.py", ((
         "                async with self._lock:\n                    together = self._next_together()",
         "                if True:\n                    together = self._next_together()",
-    ),), seeds="1"),
+    ),), seeds="12"),
     Mutant("observe-nothing", "calls.py", (
         ("            self.tickets.observe_text(headers.get(HEADER))\n", "            pass\n"),
     ), seeds="2"),

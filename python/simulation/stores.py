@@ -42,6 +42,7 @@ class Rows:
     def __init__(self) -> None:
         self.rows: dict[str, Row] = {}
         self.planes: dict[int, str] = {}
+        self.epochs = 0
 
     def jobs(self) -> list[str]:
         return sorted(self.rows)
@@ -68,6 +69,10 @@ class Rows:
         if holding is not None:
             row.holder, row.rights = holding.holder, holding.rights
         return row.version
+
+    def draw_epoch(self) -> int:
+        self.epochs += 1
+        return self.epochs
 
     def read_lives(self, job: str) -> tuple[str, Any]:
         if job not in self.rows:
@@ -199,6 +204,9 @@ class SharedStore(Store):
 
     async def beat(self, process: int, text: str) -> dict[int, str]:
         return await self._do(lambda: self._rows.beat(process, text), "", True)
+
+    async def draw_epoch(self) -> int:
+        return await self._do(self._rows.draw_epoch, "", True)
 
     async def close(self) -> None:
         pass

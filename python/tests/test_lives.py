@@ -4,6 +4,8 @@ import asyncio
 import hashlib
 import hmac
 import json
+import subprocess
+import sys
 from collections.abc import Sequence
 from pathlib import Path
 from typing import Any
@@ -19,6 +21,7 @@ from hourstable.jobs import Job  # noqa: E402
 from hourstable.library import ended_note  # noqa: E402
 from hourstable.store import Conflict, Holding, Store, Stored  # noqa: E402
 from serving import HALF, POLICY, Answer, Caller, running  # noqa: E402
+from stores import opened  # noqa: E402
 
 GUARD = POLICY["guard"]
 
@@ -375,3 +378,114 @@ async def test_a_job_of_a_version_up_to_1_0_gets_a_secret(file: Store, tmp_path:
     for life, told in enumerate(keys, 1):
         expected = hmac.new(bytes.fromhex(secret), f"task 1 life {life}".encode(), hashlib.sha256)
         assert told == {life: expected.hexdigest()}
+
+
+# Evicting a life, ending a job, epochs ---------------------------------------------------------
+
+
+async def test_an_evicted_life_gets_no_more_leases(file: Store, tmp_path: Path) -> None:
+    """Nor does its key let the next process in at once; the life that is favoured comes next."""
+    async with running(file, tmp_path / "logs") as (plane, caller):
+        await begun(caller)
+        assert (await caller.post("evict", {"task": 1})).json == {"life": 0}
+        here, elsewhere = Unit(caller, 1, process="p1", **HERE), Unit(caller, 1, process="p2")
+        life, favoured = await here.draw(), await elsewhere.draw()
+        assert (await here.grant(life)).status == 200
+        assert (await caller.post("evict", {"task": 1, "favour": favoured})).json == {"life": life}
+        job_of(plane).drop()  # it is stored
+        assert refusal(await here.grant(life)) == ("evicted", life)
+        again = await here.draw()
+        assert refusal(await here.grant(again)) == ("waiting", life)
+        waiting = await elsewhere.grant(favoured)
+        assert refusal(waiting) == ("waiting", life)
+        await asyncio.sleep(waiting.json["after"])
+        assert refusal(await here.grant(again)) == ("waiting", life)  # the favoured one comes before it
+        assert (await elsewhere.grant(favoured)).status == 200
+        assert refusal(await here.grant(life)) == ("overtaken", favoured)
+
+
+async def test_who_is_not_favoured_waits_for_a_short_time_alone(file: Store, tmp_path: Path) -> None:
+    async with running(file, tmp_path / "logs") as (_, caller):
+        await begun(caller)
+        first, second = Unit(caller, 1), Unit(caller, 1)
+        life, other, favoured = await first.draw(), await second.draw(), await second.draw()
+        assert (await first.grant(life)).status == 200
+        assert (await caller.post("evict", {"task": 1, "favour": favoured})).status == 200
+        waiting = await second.grant(other)
+        assert 0 < waiting.json["after"] <= 1.2 * GUARD / 1000 + 0.001
+        await asyncio.sleep(waiting.json["after"])
+        assert (await second.grant(other)).status == 200
+
+
+async def test_a_job_ends_once_no_lease_lasts(file: Store, tmp_path: Path) -> None:
+    async with running(file, tmp_path / "logs") as (plane, caller):
+        term = await begun(caller)
+        unit = Unit(caller, 1)
+        life = await unit.draw()
+        last = await unit.grant(life)
+        ending = (await caller.ask("DELETE", "/jobs/shop")).json
+        assert ending["state"] == "ending" and 0 < ending["after"] <= GUARD / 1000
+        job_of(plane).drop()  # it is stored
+        for told in (await unit.grant(life), await caller.post("renew", {"term": term}), await caller.create()):
+            assert (told.status, told.json["refused"]) == (409, "ending")
+        assert (await caller.get()).json["state"] == "ending"
+        note = await unit.free(note_of(last.json["value"]), unit.keys[life])
+        assert note.json["refused"] == "no-row"  # notes still come to the table, which was restored
+        while (ending := (await caller.ask("DELETE", "/jobs/shop")).json)["state"] == "ending":
+            assert ending["after"] > 0
+            await asyncio.sleep(ending["after"])
+        assert ending == {"state": "ended", "after": 0.0}
+        assert (job_of(plane).reading() or 0) >= until(last)
+        assert (await unit.grant(life)).status == 409
+
+
+async def test_a_job_that_ended_goes_on_from_what_it_was(file: Store, tmp_path: Path) -> None:
+    """Its lives, numbers and epoch are never given twice; another policy wants another name."""
+    async with running(file, tmp_path / "logs") as (_, caller):
+        await begun(caller)
+        unit = Unit(caller, 1)
+        life = await unit.draw()
+        number = int((await unit.grant(life)).json["value"]["number"])
+        epoch = (await caller.get()).json["epoch"]
+        while (ending := (await caller.ask("DELETE", "/jobs/shop")).json)["state"] != "ended":
+            await asyncio.sleep(ending["after"])
+        assert (await caller.create({**POLICY, "guard": 2000})).status == 409
+        assert (await caller.create()).status == 200
+        told = (await caller.get()).json
+        assert (told["state"], told["epoch"], told["admitted"]) == (None, epoch, {"1": life})
+        assert await unit.draw() == life + 1
+        again = await unit.grant(life)
+        assert int(again.json["value"]["number"]) > number
+
+
+async def test_epochs_are_drawn_once(url: str, job: str, tmp_path: Path) -> None:
+    """By planes side by side, too."""
+    async with opened(url) as first, opened(url) as second:
+        drawn = await asyncio.gather(*(store.draw_epoch() for _ in range(10) for store in (first, second)))
+        assert len(set(drawn)) == 20 and min(drawn) >= 1
+    async with opened(url) as store, running(store, tmp_path / "logs", shared=True) as (_, caller):
+        epochs = []
+        for name in (f"{job}-a", f"{job}-b"):
+            caller.job = name
+            assert (await caller.create()).status == 201
+            epochs.append((await caller.get()).json["epoch"])
+        assert max(drawn) < epochs[0] < epochs[1]
+
+
+async def test_commands_evict_a_life_and_end_a_job(file: Store, tmp_path: Path) -> None:
+    async with running(file, tmp_path / "logs") as (_, caller):
+        await begun(caller)
+        assert (await caller.grant(1, 2)).status == 200
+
+        async def said(*words: str) -> str:
+            given = [sys.executable, "-m", "hourstable.command", *words]
+            made = await asyncio.create_subprocess_exec(*given, stdout=subprocess.PIPE)
+            text, _ = await made.communicate()
+            assert made.returncode == 0
+            return text.decode()
+
+        assert await said("evict", "--control", caller.url, "shop", "1") == "task 1: life 2 gets no more leases\n"
+        assert await said("evict", "--control", caller.url, "shop", "2") == "task 2: no life is let in\n"
+        assert refusal(await caller.grant(1, 2)) == ("evicted", 2)
+        assert await said("end", "--control", caller.url, "shop") == ""
+        assert (await caller.get()).json["state"] == "ended"

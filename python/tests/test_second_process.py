@@ -21,7 +21,7 @@ needed.library()
 from hourstable import logs  # noqa: E402
 from hourstable.control import Plane  # noqa: E402
 from hourstable.store import Store  # noqa: E402
-from hourstable.task import Denied, Lease, LeaseLost, Task  # noqa: E402
+from hourstable.task import Denied, Lease, LeaseLost, Overtaken, Task  # noqa: E402
 from serving import POLICY, Caller, running  # noqa: E402
 from waits import until  # noqa: E402
 
@@ -245,3 +245,19 @@ async def test_a_task_with_no_folder_waits_for_the_one_before(file: Store, tmp_p
                 await asyncio.sleep(0.005)
             assert not may_serve(first)
         await first.stop()
+
+
+async def test_a_process_that_is_evicted_gives_its_leases_back_and_ends(file: Store, tmp_path: Path) -> None:
+    async with owned(file, tmp_path, {**LONG, "guard": 20_000, "bridge": 20_000}) as (_, caller):
+        first, second = task_of(caller.url, tmp_path / "a"), task_of(caller.url, tmp_path / "b")
+        async with first, second:
+            await until(lambda: bool(first.served()))
+            await until(lambda: second.state == "waiting")
+            assert (await caller.post("evict", {"task": 1, "favour": 2})).json == {"life": 1}
+            first._renew_at = 0  # else it hears of it at half of its lease
+            first._phases.changed.set()
+            with pytest.raises(Overtaken, match="an operator"):
+                await first.wait()
+            assert not may_serve(first)
+            second._phases.changed.set()
+            await until(lambda: may_serve(second))
