@@ -162,7 +162,7 @@ def _adapt(made: Scene, rng: Random) -> None:
         made.jobs[1:] = [JobScene("cart", _after(shop.tasks, TASKS_OF_SECOND_JOB))]
         made.late, made.every = 30.0, 1.5
     if made.world == "seconds":
-        made.seconds = shop.tasks[:2]
+        made.seconds, made.waits = shop.tasks[:2], True  # else nobody hears that a process was overtaken
     if made.world == "power":
         made.keeps_lines = rng.random() < 0.5
     if made.world == "quiet":

@@ -120,6 +120,8 @@ TABLE = [  # nobody, a stranger | reader, of cart | task shop-1, shop, cart | as
     Asked("POST /jobs/{job}/renew", 409, "?? -- --- +- +", {"term": 99}),
     Asked("POST /jobs/{job}/propose", 409, "?? -- --- +- +", assignment(2, [[0, [1]]]), "/jobs/shop/propose?term=99"),
     Asked("POST /jobs/{job}/commit", 409, "?? -- --- +- +", {"term": 99}),
+    Asked("POST /jobs/{job}/evict", 200, "?? -- --- -- +", {"task": 3}),
+    Asked("DELETE /jobs/{job}", 200, "?? -- --- -- +"),
     Asked("POST /jobs/{job}/hold", 204, "?? -- --- -- +", {"process": 5}),
 ]
 STATUS = {"?": 401, "-": 403}
