@@ -302,8 +302,10 @@ func mending(what string) string {
 		return "see that the plane runs and is reached from here"
 	case "unreadable":
 		return "see that the URL is that of a plane, and what stands between"
-	case "401", "403":
+	case "401":
 		return "give the secret of the plane, or let a proxy pass it"
+	case "403":
+		return "give this caller a role that may do it (--callers of the plane), or call the plane by a name of --host"
 	case "404":
 		return "PUT the job, or correct the URL"
 	case "429":

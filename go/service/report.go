@@ -41,6 +41,9 @@ func (t *Task) report(ctx context.Context) error {
 		if err := pause(ctx, t.config.Report, nil); err != nil {
 			return err
 		}
+		if t.life() == nil { // one that waits acts for no life
+			continue
+		}
 		body, err := json.Marshal(t.told())
 		if err != nil {
 			return err

@@ -28,7 +28,7 @@ const (
 type TaskConfig struct {
 	Control []string // URLs of control planes
 	Job     string
-	Task    uint64  // 1 to 64; no two processes are one task
+	Task    uint64  // 1 to 64; of two processes of one task the second waits
 	Logs    string  // the folder of logs, which has one for each job; none is written if empty
 	State   string  // the folder of tickets, the lock and keys; if empty, tickets are with the logs, and the others beside
 	Sample  float64 // the part of the answers of Serving whose calls are logged, all if 0

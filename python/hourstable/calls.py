@@ -33,7 +33,8 @@ UNREADABLE = "unreadable"
 MEND = {
     "400": "look whether it runs another version, or whether its or this host's real time is wrong",
     "401": "give it the secret of its callers (--secret-file), or this caller the secret of the planes (secret=)",
-    "403": "let this caller in where the plane or a proxy before it keeps it out",
+    "403": "give this caller a role that may do it (--callers of the plane), and call the plane by its address or a"
+           " name of --host; or a proxy before it keeps the caller out",
     "429": "look at hourstable_limited_total of the plane; --grants and --most-connections raise its limits",
     "ticket": "see to the real time of its host, and of this one",
     UNREADABLE: "look what listens there: a proxy, or something that is no control plane",

@@ -131,6 +131,7 @@ class Plane:
         )
         self._looking: set[str] = set()  # jobs at which it looks now
         self._taking: set[str] = set()  # jobs that it takes now
+        self._probing: asyncio.Task[None] | None = None  # whether other planes answer
         self.is_ending = False  # whether it gives its jobs away
 
     # Starting and ending ---------------------------------------------------------------------
@@ -235,6 +236,8 @@ class Plane:
             await asyncio.sleep(self.peers.interval)
             await self._beat_once()
             self._take_jobs()
+            if self._probing is None or self._probing.done():
+                self._probing = self.supervisor.spawn("probe", self.forwarding.probe())
 
     async def _beat_once(self) -> None:
         heard = {name: self.forwarding.heard(followed.job) for name, followed in self.jobs.items()}

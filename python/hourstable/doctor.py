@@ -25,6 +25,10 @@ MEND = {
     "assigner": "no keys move: look at the log of the plane; if it stays so, restart this plane",
     "disk": "free some space, or name another folder (--logs, --state), and see who may write there",
 }
+REFUSED = {
+    401: "name the file of a right secret: --secret-file",
+    403: "take the secret of a caller of the role read or admin, and a name of the plane: --callers, --host",
+}
 COUNTERS = {  # of metrics that are 0 where all is well, and what they mean
     "hourstable_internal_errors_total": "something failed that nobody expected: its traceback is in the log",
     "hourstable_store_failures_total": "calls of the store failed since the start of the plane",
@@ -112,7 +116,7 @@ class Doctor:
     async def _jobs(self) -> AsyncIterator[Finding]:
         told = await self._ask("/overview")
         if told.status in (401, 403):
-            yield Finding("secret", f"{told.status} to /overview", "name the file of a right secret: --secret-file")
+            yield Finding("secret", f"{told.status} to /overview", REFUSED[told.status])
             return
         if HEADER in told.headers:
             yield _skew(int(told.headers[HEADER]))

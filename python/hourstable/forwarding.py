@@ -29,7 +29,6 @@ HEADER = "Hourstable-Forwarded"  # the process of the plane that hands a call on
 PASSED = ("Content-Type", KEY, REQUEST)  # headers of a request that go on with it
 RETURNED = ("Content-Type", "Retry-After", READING)  # those of its answer that come back
 NOT_DONE = (401, 403, 500, 502, 503, 504)  # statuses of a plane that did not do a call
-LAPSE = 2  # times the standby between two failures, after which they are not of one trouble
 
 log = logging.getLogger("hourstable.forwarding")
 
@@ -65,13 +64,6 @@ class Carried(NamedTuple):
         return {**self.headers, FOR_WHOM: self.caller}
 
 
-class Unreached(NamedTuple):
-    """For how long the holder of a job gave no answer: since the first failure in a row, to the last one."""
-
-    since: float
-    last: float
-
-
 class Forwarding:
     """What a plane knows of who else serves its jobs, and the calls that it hands on. `now` returns seconds that
     never fall, and `secret` that by which other planes know this one, None if they know it by its certificate."""
@@ -84,7 +76,8 @@ class Forwarding:
         self._secret = secret
         self._failures, self._now = failures, now
         self._heard: dict[str, dict[int, float]] = {}  # by job, tasks that asked this plane itself, and when
-        self._unreached: dict[str, Unreached] = {}  # by job
+        self._silent: dict[int, float] = {}  # planes that give no answer, and since when
+        self._missed: dict[str, float] = {}  # by job, when a task was not handed on last
 
     # Who is to hold a job. -----------------------------------------------------------------------
 
@@ -115,12 +108,14 @@ class Forwarding:
         return self._is_out_of_reach(job, beat)
 
     def _is_out_of_reach(self, job: Job, beat: Beat) -> bool:
-        """Whether calls of tasks could not be handed on for so long, and fewer tasks asked the holder itself than
-        this plane, or lately none did. A job that has just moved does not come back for that."""
-        found, now, standby = self._unreached.get(job.name), self._now(), self._peers.standby
-        if found is None or self._peers.is_cut_off() or now - found.last > standby or now - found.since < standby:
+        """Whether the holder is silent for so long, so that tasks could not be handed on, and fewer tasks asked it
+        than this plane, or lately none did. A job that has just moved does not come back for that."""
+        assert job.policy is not None and job.holder is not None
+        now, standby = self._now(), self._peers.standby
+        since = max(self._silent.get(job.holder, now), self._peers.steady_since)
+        missed = self._missed.get(job.name, now - 2 * standby)
+        if self._peers.is_cut_off() or now - missed > standby or now - since < standby:
             return False
-        assert job.policy is not None
         mine, theirs = self.heard(job), beat.heard.get(job.name, Heard(0, job.policy.guard))
         is_deaf = theirs.ago >= standby and now - job.holder_since > job.policy.guard / 1000
         return mine.tasks > 0 and (theirs.tasks < mine.tasks or is_deaf)
@@ -133,13 +128,17 @@ class Forwarding:
         assert job.policy is not None
         seconds = min(self._peers.standby, job.policy.guard / 10_000)  # half of what a task waits for an answer
         for process in self._targets(job):
-            beat, begun = self._peers.known[process], self._now()
+            is_missing = asked.is_of_task and process == job.holder
+            if is_missing:
+                self._missed[job.name] = self._now()
             until = self._until_own(job) if process == job.holder else None
-            made = await self._fetch(beat, asked, seconds, until)
-            if process == job.holder:
-                self._note(job, asked, begun, made is not None)
+            made = await self._fetch(process, asked, seconds, until)
             if made is not None and made.status not in NOT_DONE:
-                return _answer(made, beat.address)
+                self._missed.pop(job.name, None)
+                beat = self._peers.of(process)
+                return _answer(made, beat.address if beat is not None else "")
+            if is_missing:
+                self._missed[job.name] = self._now()
         return None
 
     async def _until_own(self, job: Job) -> None:
@@ -153,39 +152,45 @@ class Forwarding:
             return others
         return [it for it in others if it == job.holder]
 
-    def _note(self, job: Job, asked: Carried, begun: float, is_answered: bool) -> None:
-        """Notes whether the holder of a job answered."""
-        if is_answered or self._peers.is_cut_off():
-            self._unreached.pop(job.name, None)
-        elif asked.is_of_task:
-            before = self._unreached.get(job.name)
-            lapsed = before is None or begun - before.last > LAPSE * self._peers.standby
-            self._unreached[job.name] = Unreached(begun if before is None or lapsed else before.since, self._now())
+    async def probe(self) -> None:
+        """Asks the other planes whether they answer."""
+        asked = Carried("", "", "GET", "/healthz", {}, b"", False)
+        await asyncio.gather(*(self._fetch(it, asked, self._peers.standby / 2) for it in self._peers.others()))
 
     async def give(self, job: Job, process: int, seconds: float) -> bool:
         """Lets another plane take a job that this one gave away, and returns whether it did."""
         body = b'{"process":%d}' % self._peers.process
         path, headers = f"/jobs/{job.name}/hold", {"Content-Type": "application/json"}
         asked = Carried(EVERYBODY.packed(), "", "POST", path, headers, body, False)
-        made = await self._fetch(self._peers.known[process], asked, seconds)
+        made = await self._fetch(process, asked, seconds)
         return made is not None and made.status == 204
 
     async def _fetch(
-        self, beat: Beat, asked: Carried, seconds: float, until: Coroutine[Any, Any, None] | None = None
+        self, process: int, asked: Carried, seconds: float, until: Coroutine[Any, Any, None] | None = None
     ) -> Fetched | None:
         """Returns the answer of a plane, None if there is none in these seconds, or before something is done."""
+        beat, begun = self._peers.of(process), self._now()
+        address = beat.address if beat is not None else ""
+        headers = {**asked.headers_by(self._secret()), HEADER: str(self._peers.process)}
         try:
-            headers = {**asked.headers_by(self._secret()), HEADER: str(self._peers.process)}
             headers[ticketing.HEADER] = str(self._tickets.draw())
-            fetching = self._transport.fetch(asked.method, beat.address + asked.path, headers, asked.body)
-            made = await within(seconds, fetching if until is None else unless(until, fetching))
-        except (aiohttp.ClientError, TimeoutError, OSError, ValueError, OverflowError) as why:
-            log.info("%s%s was not handed on: %r", beat.address, asked.path, why)
+        except (OSError, OverflowError) as why:  # of this plane alone
+            log.warning("no ticket can be drawn: %s", why)
+            if until is not None:
+                until.close()
             return None
+        fetching = self._transport.fetch(asked.method, address + asked.path, headers, asked.body)
+        try:
+            made = await within(seconds, fetching if until is None else unless(until, fetching))
+        except (aiohttp.ClientError, TimeoutError, OSError, ValueError) as why:
+            log.info("%s%s was not handed on: %r", address, asked.path, why)
+            self._silent.setdefault(process, begun)
+            return None
+        self._silent.pop(process, None)
         try:
             self._tickets.observe_text(made.headers.get(ticketing.HEADER))
         except ValueError as why:  # the answer counts all the same
-            log.warning("%s: %s", beat.address, why)
+            log.warning("%s: %s", address, why)
         return made
 
     async def close(self) -> None:

@@ -68,7 +68,7 @@ class Peers:
         self._number = 0
         self._texts: dict[int, str] = {}
         self._still: dict[int, int] = {}  # planes, and how many own beats were written since theirs
-        self._written = now()  # when a beat of this plane was written last
+        self._written = self.steady_since = now()  # when a beat of this plane was written last, and first in a row
 
     async def check(self) -> None:
         """Raises BlockingIOError if another plane runs under the number of this one, for which it waits as long as
@@ -87,6 +87,8 @@ class Peers:
         self._number += 1
         mine = Beat(self.incarnation, self.address, self._number, heard, failed, has_ended)
         found = await self._store.beat(self.process, mine.text())
+        if self.is_cut_off():
+            self.steady_since = self._now()
         self._written, self.is_known = self._now(), True
         for process, text in found.items():
             is_same = text == self._texts.get(process)

@@ -805,7 +805,8 @@ class Task:
         while True:
             await asyncio.sleep(self._report_every)
             try:
-                await self._control.read(replies.done, "POST", "/loads", self._told())
+                if self._leases is not None:  # one that waits, or has ended, acts for no life
+                    await self._control.read(replies.done, "POST", "/loads", self._told())
                 if self.renewed.times and not self._served and not self._is_cut_off:
                     reads = partial(replies.is_draining, self.task)
                     self._is_draining = await self._control.read(reads, "GET")

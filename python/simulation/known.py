@@ -31,7 +31,6 @@ def _cause(name: str, checks: str, shows: str, worlds: str = "") -> Cause:
 
 CAUSES = (
     _cause("backup", "unsafe history exited died unserved not_renewed", r"", "backup"),
-    _cause("moving", "denied", r" moved, denied", "failover"),
 )
 
 

@@ -21,7 +21,9 @@ from .world import SECOND, World
 MAY_EXIT = ("None", "OSError", "BlockingIOError", "StoreFailed")  # None: as it was asked to
 MOST_BEHIND = 2  # seconds by which a plane may show an older generation than another one
 QUIET_BOUND = 2.0  # seconds for which a key that moves may be denied: blocks that are open on it have one to end
-FAILOVER_BOUND = 1.0  # seconds for which a key may be denied when one of two planes is lost
+FAILOVER_BOUND = 1.0  # seconds for which a key that stays may be denied when one of two planes is lost or cut off
+GRACE_BOUND = 5.0  # and one that moves, beside a lease: the plane that takes over knows no leases, so it commits a
+# change that was proposed before only once those of the earlier plane have ended
 CHECKS = (
     "unsafe", "history", "unserved", "not_renewed", "waiting", "grown", "died", "exited", "answered_500",
     "denied", "behind", "audit", "broken",
@@ -138,17 +140,9 @@ class Run:
 
     def _judge(self, made: Found, well: Health) -> None:
         scene, cluster = self.scene, self.cluster
-        denied: list[str] = []
-        if scene.world == "failover":
-            denied = [
-                str(it) for it in self.watch.denials
-                if it.seconds > FAILOVER_BOUND and it.begun > scene.begin * SECOND
-            ]
-        if scene.world == "quiet":  # only keys that become hot move
-            denied = [
-                str(it) for it in self.watch.denials
-                if it.seconds > (QUIET_BOUND if it.moved else 0) and it.begun > scene.begin * SECOND
-            ] + lapses(cluster)
+        denied = self._denied()
+        if scene.world == "quiet":
+            denied += lapses(cluster)
         wild = scene.world == "wild"  # beyond the drift nothing is promised
         back = any(it.kind == "go_back" for it in self.faults.struck)
         found: dict[str, list[str]] = {
@@ -174,6 +168,18 @@ class Run:
         }
         made.wrong = {name: all_of for name, all_of in found.items() if all_of}
         made.digest = f"{self.world.digest & (1 << 64) - 1:016x}"
+
+    def _denied(self) -> list[str]:
+        """Returns the denials that last longer than the world allows: of a key that stays, and of one that moves."""
+        scene = self.scene
+        quiet, lost = (0.0, QUIET_BOUND), (FAILOVER_BOUND, scene.term + GRACE_BOUND)
+        bounds = {"quiet": quiet, "handovers": quiet, "failover": lost, "pairs": lost}.get(scene.world)
+        if bounds is None:
+            return []
+        return [
+            str(it) for it in self.watch.denials
+            if it.seconds > bounds[it.moved] and it.begun > scene.begin * SECOND
+        ]
 
     def _has_lost(self) -> bool:
         """Whether logs lost lines with the power of a host."""

@@ -84,6 +84,8 @@ WORLDS: dict[str, tuple[str, ...]] = {
     "quiet": (),
     "usual": USUAL,
     "failover": ("failover",),
+    "handovers": ("hand_over",),
+    "pairs": ("pair",),
     "isolation": ("lock_second_job", "lose_task"),
     "clocks": ("set_clock", "sleep", "wrong_day", "kill"),
     "wild": ("wrong_rate", "jump", "kill"),
@@ -102,6 +104,7 @@ UNTIMELY = {"set_clock", "wrong_day", "wrong_rate", "jump", "crash", "power", "f
 SHARES = {  # how many of a hundred seeds have a world; the others are usual
     "quiet": 2, "failover": 6, "isolation": 4, "clocks": 4, "wild": 4, "seconds": 3, "backup": 2, "power": 5,
     "secrets": 3, "strangers": 3, "disks": 4, "callers": 2, "joiners": 8, "stores": 8, "partitions": 8,
+    "handovers": 3, "pairs": 4,
 }
 
 
@@ -149,11 +152,11 @@ def _after(tasks: tuple[int, ...], count: int) -> tuple[int, ...]:
 def _adapt(made: Scene, rng: Random) -> None:
     """Gives a scene what its world needs."""
     shop = made.jobs[0]
-    if made.world in ("failover", "isolation", "backup", "disks"):
+    if made.world in ("failover", "handovers", "pairs", "isolation", "backup", "disks"):
         made.planes, made.engine, made.lone_assigners = 2, "rows", 0
         shop = made.jobs[0] = JobScene("shop", shop.tasks[:4])
         made.jobs = made.jobs[:1]
-    if made.world == "failover":
+    if made.world in ("failover", "handovers", "pairs"):
         made.guard, made.every, made.length = 10_000, 30.0, 190.0
     if made.world in ("isolation", "disks"):
         made.guard, made.late = 4000, 0.0
@@ -162,7 +165,7 @@ def _adapt(made: Scene, rng: Random) -> None:
         made.jobs[1:] = [JobScene("cart", _after(shop.tasks, TASKS_OF_SECOND_JOB))]
         made.late, made.every = 30.0, 1.5
     if made.world == "seconds":
-        made.seconds = shop.tasks[:2]
+        made.seconds, made.waits = shop.tasks[:2], True  # else nobody hears that a process was overtaken
     if made.world == "power":
         made.keeps_lines = rng.random() < 0.5
     if made.world == "quiet":

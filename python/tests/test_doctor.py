@@ -19,7 +19,7 @@ import needed
 
 needed.library()
 
-from hourstable import doctor, readiness  # noqa: E402
+from hourstable import callers, doctor, readiness  # noqa: E402
 from hourstable.calls import Rejected  # noqa: E402
 from hourstable.client import NoOwner, Router  # noqa: E402
 from hourstable.command import main  # noqa: E402
@@ -78,6 +78,15 @@ async def test_a_secret_that_is_missing_or_wrong(tmp_path: Path, capfd: Said) ->
             status, lines = await examined(caller.url, capfd, *words)
             told = "MEND secret: 401 to /overview: name the file of a right secret: --secret-file"
             assert status == 1 and told in lines
+
+
+async def test_a_role_that_is_too_small(tmp_path: Path, capfd: Said) -> None:
+    file = tmp_path / "secret"
+    file.write_text("the-secret-of-a-task")
+    task = callers.Known(callers.Caller("a", callers.Role.TASK, frozenset({"shop"})), ("the-secret-of-a-task",))
+    async with plane_of(tmp_path, callers=callers.Callers([task])) as (_, caller):
+        status, lines = await examined(caller.url, capfd, "--secret-file", str(file))
+        assert status == 1 and any(it.startswith("MEND secret: 403 to /overview: take the secret") for it in lines)
 
 
 async def test_what_does_not_answer(tmp_path: Path, capfd: Said, monkeypatch: pytest.MonkeyPatch) -> None:

@@ -52,6 +52,7 @@ async def exported_by_a_plane(tmp_path: Path) -> str:
         plane.metrics.restored("shop")
         plane.metrics.replaced("shop")
         plane.metrics.stored("swap", 0.0, True)
+        plane.metrics.reloads.labels("failed").inc()
         return (await caller.ask("GET", "/metrics")).body.decode()
 
 

@@ -328,3 +328,23 @@ async def test_a_person_gives_the_secret(tmp_path: Path) -> None:
             await tab.until("document.getElementById('name').textContent", lambda it: it == "shop")
             assert await tab.value("document.getElementById('secret-form').hidden")
             assert SECRET not in await tab.value("document.documentElement.outerHTML")
+
+
+async def test_a_secret_that_may_not_read_the_page(tmp_path: Path) -> None:
+    file = tmp_path / "callers.toml"
+    file.write_text(
+        f'[task]\nrole = "task"\njob = "shop"\nsecret = "{SECRET}"\n[one]\nrole = "read"\nsecret = "{SECRET}-2"\n'
+    )
+    file.chmod(0o600)
+    async with served(tmp_path, "--callers", str(file)) as url, browser.browser() as tab:
+        await tab.open(url)
+        note = "document.getElementById('secret-note').textContent"
+        await tab.until("document.activeElement.id", lambda it: it == "secret")
+        await tab.type(SECRET)
+        await tab.press("Enter")
+        await tab.until(note, lambda it: it == "This secret may not read the page.")
+        await tab.until("document.activeElement.id", lambda it: it == "secret")
+        await tab.type(f"{SECRET}-2")
+        await tab.press("Enter")
+        await tab.until("document.getElementById('jobs').textContent", lambda it: it == "There is no job yet.")
+        assert await tab.value("document.getElementById('secret-form').hidden")

@@ -120,7 +120,11 @@ TABLE = [  # nobody, a stranger | reader, of cart | task shop-1, shop, cart | as
     Asked("POST /jobs/{job}/renew", 409, "?? -- --- +- +", {"term": 99}),
     Asked("POST /jobs/{job}/propose", 409, "?? -- --- +- +", assignment(2, [[0, [1]]]), "/jobs/shop/propose?term=99"),
     Asked("POST /jobs/{job}/commit", 409, "?? -- --- +- +", {"term": 99}),
+    Asked("POST /jobs/{job}/evict", 200, "?? -- --- -- +", {"task": 3}),
+    Asked("DELETE /jobs/{job}", 200, "?? -- --- -- +"),
     Asked("POST /jobs/{job}/hold", 204, "?? -- --- -- +", {"process": 5}),
+    Asked("POST /jobs/{job}/evict", 200, "?? -- --- -- +", {"task": 2}),
+    Asked("DELETE /jobs/{job}", 200, "?? -- --- -- +"),
 ]
 STATUS = {"?": 401, "-": 403}
 
@@ -383,6 +387,17 @@ async def test_a_plane_calls_for_another_caller(plain: Plain) -> None:
         told = await plain.ask(name, "POST", "/jobs/shop/grant", body, header)
         assert told.status == status, (name, header, told)
     assert (await plain.ask("admin", "POST", "/jobs/shop/grant", {"task": 2, "life": 1}, task)).status == 403
+
+
+def test_each_test_that_the_manual_names() -> None:
+    """The tables of who trusts whom, and of what who has broken into a place can do."""
+    page = (TOP / "docs/OPERATIONS.md").read_text(encoding="utf-8")
+    section = page.partition("### Who trusts whom\n")[2].partition("\n### ")[0]
+    named = re.findall(r"`([a-z_]+): ([a-z0-9_]+)`", section)
+    assert len(named) >= 25
+    for file, name in named:
+        text = (TOP / f"python/tests/test_{file}.py").read_text(encoding="utf-8")
+        assert f"def test_{name}(" in text, (file, name)
 
 
 def test_the_file_that_the_manual_shows(tmp_path: Path) -> None:

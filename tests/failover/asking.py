@@ -8,6 +8,7 @@ denial of this time its seconds, the key and the ground.
 
 import asyncio
 import json
+import logging
 import signal
 import sys
 import time
@@ -82,4 +83,5 @@ async def main(job: str, folder: str, numbers: int, guard: int, urls: list[str])
 
 
 if __name__ == "__main__":
+    logging.basicConfig(level=logging.INFO, format="%(asctime)s %(message)s")
     asyncio.run(main(sys.argv[1], sys.argv[2], int(sys.argv[3]), int(sys.argv[4]), sys.argv[5:]))

@@ -96,6 +96,7 @@ function list(id, texts) {
 // Asking --------------------------------------------------------------------------------------
 
 class Unauthorized extends Error {}
+class Forbidden extends Error {}
 
 async function ask(path) {
   const secret = sessionStorage.getItem(STORED);
@@ -103,6 +104,7 @@ async function ask(path) {
   const answer = await fetch(path, { headers, cache: "no-store", credentials: "omit" });
   if (answer.status === 401) throw new Unauthorized();
   const value = await answer.json();
+  if (answer.status === 403) throw new Forbidden(value.error);
   if (!answer.ok) throw new Error(value.error || `status ${answer.status}`);
   return value;
 }
@@ -445,7 +447,8 @@ async function refresh() {
     await look(mine);
   } catch (error) {
     if (mine !== turn) return;
-    if (error instanceof Unauthorized) return askForSecret();
+    if (error instanceof Unauthorized) return askForSecret("The control plane does not know this secret.");
+    if (error instanceof Forbidden && at("content").hidden) return askForSecret("This secret may not read the page.");
     tell(`Not up to date: ${error.message}.`, true);
   }
   if (mine === turn && at("follow").checked) {
@@ -498,13 +501,13 @@ async function slicesOf(path, leases) {
   return asked.slices;
 }
 
-function askForSecret() {
+function askForSecret(wrong) {
   const had = sessionStorage.getItem(STORED) !== null;
   sessionStorage.removeItem(STORED);
   at("content").hidden = true;
   at("secret-form").hidden = false;
-  at("secret-note").textContent = had ? "The control plane does not know this secret."
-    : "It is a line of the file that --secret-file names. This tab keeps it until it is closed.";
+  at("secret-note").textContent = had ? wrong
+    : "It is in the file that --callers or --secret-file names. This tab keeps it until it is closed.";
   at("secret-note").className = had ? "bad" : "";
   tell("The control plane wants its secret.", true);
   at("secret").focus();

@@ -9,6 +9,7 @@ from ..services import Cluster, Service
 from ..world import SECOND
 
 Undo = Callable[[], object]
+ONE_BY_ONE = ("failover", "handovers", "pairs")  # worlds in which one fault has ended before the next one
 LOAD_EVERY = 4.0  # seconds between two changes of the hot key
 
 
@@ -66,7 +67,7 @@ def plan_of(scene: Scene) -> list[Fault]:
     at = scene.begin
     others = [it for it in scene.kinds if it != "load"]
     while others:
-        at += rng.expovariate(1 / scene.every) if scene.world != "failover" else scene.every
+        at += rng.expovariate(1 / scene.every) if scene.world not in ONE_BY_ONE else scene.every
         if at >= scene.end:
             break
         made.append(Fault(len(made), int(at * SECOND), rng.choice(others)))

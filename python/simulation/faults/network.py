@@ -31,6 +31,24 @@ def strike_one_way(strike: Strike) -> None:
 
 
 @kind
+def strike_pair(strike: Strike) -> None:
+    """A plane hears no more of another plane or of a task, or they of it; or it does not reach the store."""
+    cluster, plane = strike.cluster, strike.any("plane").host.address
+    seconds = strike.rng.uniform(1, strike.leases(3))
+    if strike.rng.random() < 0.25:
+        strike.tell(f"{plane} does not reach the store")
+        cluster.engine.frozen[plane] = strike.world.now + int(seconds * SECOND)
+        strike.lasts_for(seconds, lambda: cluster.engine.frozen.pop(plane, None))
+        return
+    others = [it.host.address for it in (*cluster.of("plane"), *cluster.of("task")) if it.host.address != plane]
+    link = plane, strike.rng.choice(others)
+    links = {link if strike.rng.random() < 0.5 else link[::-1]}
+    strike.tell(f"{sorted(links)}")
+    cluster.network.cut |= links
+    strike.lasts_for(seconds, lambda: cluster.network.mend(links))
+
+
+@kind
 def strike_part(strike: Strike) -> None:
     """The network falls in two parts, or one of them does not hear the other."""
     addresses = list(strike.cluster.network.hosts)

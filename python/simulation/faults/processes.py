@@ -71,6 +71,16 @@ def strike_failover(strike: Strike) -> None:
 
 
 @kind
+def strike_hand_over(strike: Strike) -> None:
+    """The plane that holds the job is asked to end, as by SIGTERM, while another one runs. It is started again."""
+    service = strike.cluster.holder("shop")
+    process = service.process if service is not None else None
+    if service is not None and process is not None and process.on_signal is not None:
+        strike.tell(service.name)
+        strike.world.enter(process, process.on_signal)
+
+
+@kind
 def strike_stop(strike: Strike) -> None:
     """A process stands still, as by SIGSTOP."""
     _stand_still(strike, strike.any())
