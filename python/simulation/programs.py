@@ -50,6 +50,8 @@ def add_all(cluster: Cluster) -> None:
     for number in scene.seconds:
         main = partial(run_task, scene.jobs[0], number)
         cluster.add(f"again{number}", f"10.0.4.{number}", main).is_wanted = False
+        if scene.world == "folders":
+            cluster.add(f"beside{number}", f"10.0.1.{number}", main).is_wanted = False
     for at in range(scene.clients):
         job = scene.jobs[at % len(scene.jobs)]
         cluster.add(f"client{at}", f"10.0.2.{at}", partial(run_client, job, at))

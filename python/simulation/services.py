@@ -186,7 +186,8 @@ class Cluster:
         first = job is self.scene.jobs[0]
         numbers = {*job.tasks, *(self.scene.spare_tasks if first else ())}
         names = {f"task{number}" for number in numbers}
-        names |= {f"again{number}" for number in (self.scene.seconds if first else ())}
+        seconds = self.scene.seconds if first else ()
+        names |= {f"{kind}{number}" for number in seconds for kind in ("again", "beside")}
         return [one for name, one in self.services.items() if name in names]
 
     def running(self, job: JobScene) -> list[tuple[Process, Task]]:
