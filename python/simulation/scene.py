@@ -94,6 +94,7 @@ WORLDS: dict[str, tuple[str, ...]] = {
     "backup": ("backup", "go_back"),
     "power": ("power", "kill", "cut"),
     "secrets": ("wrong_secret", "kill"),
+    "roles": ("trespass", "kill", "term"),
     "strangers": ("stranger", "cut"),
     "disks": ("disk_of_job", "kill"),
     "callers": ("callbacks",),
