@@ -305,7 +305,7 @@ func mending(what string) string {
 	case "401":
 		return "give the secret of the plane, or let a proxy pass it"
 	case "403":
-		return "give this caller a role that may do it (--callers of the plane), or call the plane by a name of --host"
+		return "give the secret of a caller whose role may do it (--callers of the plane), or call it by a name of --host"
 	case "404":
 		return "PUT the job, or correct the URL"
 	case "429":

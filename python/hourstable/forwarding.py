@@ -28,6 +28,7 @@ from hourstable.waiting import unless, within
 HEADER = "Hourstable-Forwarded"  # the process of the plane that hands a call on
 PASSED = ("Content-Type", KEY, REQUEST)  # headers of a request that go on with it
 RETURNED = ("Content-Type", "Retry-After", READING)  # those of its answer that come back
+HAD_TIME = 0.6  # of the time after which planes take over: for a call, and for two beats
 NOT_DONE = (401, 403, 500, 502, 503, 504)  # statuses of a plane that did not do a call
 
 log = logging.getLogger("hourstable.forwarding")
@@ -77,7 +78,7 @@ class Forwarding:
         self._failures, self._now = failures, now
         self._heard: dict[str, dict[int, float]] = {}  # by job, tasks that asked this plane itself, and when
         self._silent: dict[int, float] = {}  # planes that give no answer, and since when
-        self._missed: dict[str, float] = {}  # by job, when a task was not handed on last
+        self._missed: dict[str, tuple[float, float]] = {}  # by job, when tasks were not handed on: first and last
 
     # Who is to hold a job. -----------------------------------------------------------------------
 
@@ -113,11 +114,12 @@ class Forwarding:
         assert job.policy is not None and job.holder is not None
         now, standby = self._now(), self._peers.standby
         since = max(self._silent.get(job.holder, now), self._peers.steady_since)
-        missed = self._missed.get(job.name, now - 2 * standby)
-        if self._peers.is_cut_off() or now - missed > standby or now - since < standby:
+        first, last = self._missed.get(job.name, (now, now - 2 * standby))
+        if self._peers.is_cut_off() or now - last > standby or now - since < standby:
             return False
         mine, theirs = self.heard(job), beat.heard.get(job.name, Heard(0, job.policy.guard))
-        is_deaf = theirs.ago >= standby and now - job.holder_since > job.policy.guard / 1000
+        had_time = now - first >= HAD_TIME * standby  # a task that reaches the holder has asked it by now
+        is_deaf = had_time and theirs.ago >= standby and now - job.holder_since > job.policy.guard / 1000
         return mine.tasks > 0 and (theirs.tasks < mine.tasks or is_deaf)
 
     # Calls that are handed on. -------------------------------------------------------------------
@@ -130,7 +132,9 @@ class Forwarding:
         for process in self._targets(job):
             is_missing = asked.is_of_task and process == job.holder
             if is_missing:
-                self._missed[job.name] = self._now()
+                self._miss(job)
+            if self._now() - self._silent.get(process, self._now()) >= seconds:
+                continue  # the caller may reach it, and is not kept up
             until = self._until_own(job) if process == job.holder else None
             made = await self._fetch(process, asked, seconds, until)
             if made is not None and made.status not in NOT_DONE:
@@ -138,8 +142,14 @@ class Forwarding:
                 beat = self._peers.of(process)
                 return _answer(made, beat.address if beat is not None else "")
             if is_missing:
-                self._missed[job.name] = self._now()
+                self._miss(job)
         return None
+
+    def _miss(self, job: Job) -> None:
+        """Notes that a call of a task is not handed on, or not yet."""
+        now = self._now()
+        first, last = self._missed.get(job.name, (now, now))
+        self._missed[job.name] = (first if now - last <= self._peers.standby else now), now
 
     async def _until_own(self, job: Job) -> None:
         """Returns when this plane is to do the calls of a job itself."""

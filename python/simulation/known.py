@@ -30,7 +30,8 @@ def _cause(name: str, checks: str, shows: str, worlds: str = "") -> Cause:
 
 
 CAUSES = (
-    _cause("backup", "unsafe history exited died unserved not_renewed", r"", "backup"),
+    _cause("backup", "unsafe history exited died unserved not_renewed grown", r"", "backup"),
+    _cause("standby", "denied", r" moved, denied", "quiet handovers"),
 )
 
 

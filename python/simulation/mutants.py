@@ -27,7 +27,7 @@ MUTANTS = (
         "        lines = [one.line for one in played]\n",
         "        lines = [one.line for one in played]\n"
         "        for waiting, made, _ in played:\n            waiting.tell(made)\n",
-    ),), seeds="31"),
+    ),), seeds="44"),
     Mutant("version-not-compared", "store_sqlite.py", (
         ('AND version = ?{where}",', 'AND version >= 0 * ?{where}",'),
         ('where, compared = f" AND {HOLDER} = ?",', 'where, compared = f" AND {HOLDER} <> ?",'),
@@ -46,7 +46,7 @@ MUTANTS = (
         ("        self._waiting.append(Waiting(call, answer))\n",
          "        call.drawn = self.tickets.draw()\n        self._waiting.append(Waiting(call, answer))\n"),
         ("call.logged(self.tickets.draw(), at)  # after", "call.logged(call.drawn, at)  # after"),
-    ), seeds="6"),
+    ), seeds="3"),
     Mutant("reading-before-ticket", "leases.py", ((
         "        call = LoggedCall(self._tickets.draw(), CALLS[do], task=self.task, **members)\n"
         "        call.at = self.read()\n",
@@ -108,7 +108,7 @@ MUTANTS = (
     ), seeds="187"),
     Mutant("boot-not-compared", "tickets.py", (
         ("        if boot and boot == self.fields.boot and", "        if boot and"),
-    ), seeds="21"),
+    ), seeds="163"),
     Mutant("poller-ends", "control.py", ((
         "                        followed.job.unsee()\n                    continue",
         "                        followed.job.unsee()\n                    return",

@@ -25,6 +25,8 @@ from .exchanges import ask
 from .handlers import Direct, Handlers
 from .machine import Machine
 from .scene import JobScene
+from .roles import WORLD as ROLES
+from .roles import callers_of, run_operator, secret_of
 from .services import OTHER_SECRET, SECRET, SERVICE, Cluster, Gain, Loss, Service
 from .stores import SharedStore
 from .strangers import listen
@@ -50,6 +52,10 @@ def add_all(cluster: Cluster) -> None:
     for number in scene.seconds:
         main = partial(run_task, scene.jobs[0], number)
         cluster.add(f"again{number}", f"10.0.4.{number}", main).is_wanted = False
+        if scene.world == "folders":
+            cluster.add(f"beside{number}", f"10.0.1.{number}", main).is_wanted = False
+    if scene.world == ROLES:
+        cluster.add("operator", "10.0.5.0", run_operator)
     for at in range(scene.clients):
         job = scene.jobs[at % len(scene.jobs)]
         cluster.add(f"client{at}", f"10.0.2.{at}", partial(run_client, job, at))
@@ -79,7 +85,7 @@ async def run_plane(at: int, service: Service) -> None:
     options = Options(
         "simulated:", service.host.disk.folder, host, port, process=at, shared=cluster.scene.is_shared,
         assigner=0 if cluster.scene.lone_assigners else at + 1,
-        secrets=[OTHER_SECRET if wrong == "401" else SECRET], rules=RULES,
+        secrets=secrets_of(cluster, wrong == "401"), callers=callers_of(cluster), rules=RULES,
         state=service.host.disk.folder / "state",
     )
     opens = partial(open_shared, cluster)
@@ -92,6 +98,13 @@ async def run_plane(at: int, service: Service) -> None:
     answer_exchanges(cluster, process, (host, port), running.plane)
     await stopped.wait()
     await running.stop()
+
+
+def secrets_of(cluster: Cluster, is_wrong: bool) -> list[str]:
+    """Returns the secrets by which a plane lets everybody do everything."""
+    if is_wrong:
+        return [OTHER_SECRET]
+    return [] if cluster.scene.world == ROLES else [SECRET]
 
 
 async def open_shared(cluster: Cluster, _: str, deadline: float, system: System) -> Store:
@@ -115,7 +128,8 @@ async def run_assigner(at: int, service: Service) -> None:
     number = cluster.scene.planes + at
     path = service.host.disk.folder / f"assigner-{number}.ticket"
     tickets = Tickets(number, path, system=machine)
-    desk = HttpDesk(cluster.urls, tickets, SECRET, transport=transport_of(service), system=machine)
+    secret = secret_of(cluster, service.name)
+    desk = HttpDesk(cluster.urls, tickets, secret, transport=transport_of(service), system=machine)
     clock = local_clock(system=machine)
     try:
         await AssignerOfJobs(number + 1, desk, clock, RULES, system=machine).run()
@@ -188,7 +202,7 @@ async def run_task(job: JobScene, number: int, service: Service) -> None:
     cluster, process = service.cluster, process_of(service)
     served = Served(service, job, number)
     process.is_to_end = service.name in cluster.wrong_secrets
-    secret = OTHER_SECRET if process.is_to_end else SECRET
+    secret = OTHER_SECRET if process.is_to_end else secret_of(cluster, service.name)
     task = Task(
         cluster.urls, job.name, number, logs=service.host.disk.folder,
         state=service.host.disk.folder / "state", policy=cluster.policy(job),
@@ -267,7 +281,7 @@ async def run_client(job: JobScene, number: int, service: Service) -> None:
     urls = list(cluster.urls)
     process_of(service).rng.shuffle(urls)
     router = service.object = Router(
-        urls, job.name, logs=service.host.disk.folder, clerk=number + 1, secret=SECRET,
+        urls, job.name, logs=service.host.disk.folder, clerk=number + 1, secret=secret_of(cluster, service.name),
         state=service.host.disk.folder / "state", transport=transport_of(service),
         system=Machine(process_of(service)),
     )

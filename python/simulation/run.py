@@ -154,6 +154,7 @@ class Run:
                 str(it) for it in cluster.exits if not it.why.startswith(MAY_EXIT)
                 and not (wild and "ClockBroken" in it.why) and not (scene.seconds and "Overtaken" in it.why)
             ],
+            "trespassed": cluster.trespassed,
             "answered_500": cluster.failed, "denied": denied, "behind": [*self.behind, *well.behind],
         }
         made.faults = self.faults.struck
@@ -162,7 +163,8 @@ class Run:
             "events": self.world.events, "checked": cluster.oracle.checked,
             "probed": cluster.oracle.probed, "writes": cluster.engine.writes, "well": well.seconds,
             "operations": sum(map(len, cluster.shelf.history.values())),
-            "denied": self.watch.worst(), "whole": scene.is_whole, "engine": scene.engine,
+            "denied": self.watch.worst(), "turned_away": cluster.turned_away,
+            "whole": scene.is_whole, "engine": scene.engine,
             "is_audited": not (back or self._has_lost()),
             "is_timely": scene.has_timely_tickets, "lone_assigners": scene.lone_assigners,
         }

@@ -90,9 +90,11 @@ WORLDS: dict[str, tuple[str, ...]] = {
     "clocks": ("set_clock", "sleep", "wrong_day", "kill"),
     "wild": ("wrong_rate", "jump", "kill"),
     "seconds": ("second", "kill", "part"),
+    "folders": ("second", "beside", "copy", "kill", "freeze_task"),
     "backup": ("backup", "go_back"),
     "power": ("power", "kill", "cut"),
     "secrets": ("wrong_secret", "kill"),
+    "roles": ("trespass", "kill", "term"),
     "strangers": ("stranger", "cut"),
     "disks": ("disk_of_job", "kill"),
     "callers": ("callbacks",),
@@ -104,7 +106,7 @@ UNTIMELY = {"set_clock", "wrong_day", "wrong_rate", "jump", "crash", "power", "f
 SHARES = {  # how many of a hundred seeds have a world; the others are usual
     "quiet": 2, "failover": 6, "isolation": 4, "clocks": 4, "wild": 4, "seconds": 3, "backup": 2, "power": 5,
     "secrets": 3, "strangers": 3, "disks": 4, "callers": 2, "joiners": 8, "stores": 8, "partitions": 8,
-    "handovers": 3, "pairs": 4,
+    "handovers": 3, "pairs": 4, "folders": 1,
 }
 
 
@@ -164,7 +166,7 @@ def _adapt(made: Scene, rng: Random) -> None:
     if made.world in ("strangers", "secrets"):  # the second job is not yet created when they come
         made.jobs[1:] = [JobScene("cart", _after(shop.tasks, TASKS_OF_SECOND_JOB))]
         made.late, made.every = 30.0, 1.5
-    if made.world == "seconds":
+    if made.world in ("seconds", "folders"):
         made.seconds, made.waits = shop.tasks[:2], True  # else nobody hears that a process was overtaken
     if made.world == "power":
         made.keeps_lines = rng.random() < 0.5

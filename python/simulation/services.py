@@ -136,6 +136,8 @@ class Cluster:
         self.gains: list[Gain] = []
         self.losses: list[Loss] = []
         self.failed: list[str] = []  # requests that a plane answered by 500
+        self.trespassed: list[str] = []  # calls that a plane did although the role of the caller does not allow them
+        self.turned_away = 0  # and those that it did not
         self.callbacks = 0.0  # the part of callbacks of tasks that fail
         self.hot: str | None = None  # the key for which half of all requests are
         self.wrong: dict[str, str] = {}  # planes that are started wrongly, and how
@@ -186,7 +188,8 @@ class Cluster:
         first = job is self.scene.jobs[0]
         numbers = {*job.tasks, *(self.scene.spare_tasks if first else ())}
         names = {f"task{number}" for number in numbers}
-        names |= {f"again{number}" for number in (self.scene.seconds if first else ())}
+        seconds = self.scene.seconds if first else ()
+        names |= {f"{kind}{number}" for number in seconds for kind in ("again", "beside")}
         return [one for name, one in self.services.items() if name in names]
 
     def running(self, job: JobScene) -> list[tuple[Process, Task]]:

@@ -6,6 +6,7 @@ from hourstable.tickets import Tickets
 
 from ..handlers import Direct
 from ..machine import Machine
+from ..roles import trespass
 from ..services import SECRET
 from ..world import Process
 from .base import Strike, kind
@@ -66,6 +67,17 @@ def strike_lose_task(strike: Strike) -> None:
     number = strike.rng.choice(strike.cluster.scene.jobs[0].tasks)
     strike.tell(f"task{number}")
     strike.cluster.services[f"task{number}"].kill(10.0)
+
+
+@kind
+def strike_trespass(strike: Strike) -> None:
+    """Callers whose role is too small, or who are not known, make calls for a task, as an assigner and as an admin."""
+    process = Process(strike.world, "trespasser", strike.any("client").host)
+
+    def begin() -> None:
+        process.main = process.loop.create_task(trespass(strike.cluster, process, strike.rng))
+
+    strike.world.at(strike.world.now, begin, process)
 
 
 @kind

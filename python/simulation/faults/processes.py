@@ -204,7 +204,40 @@ def strike_wrong_secret(strike: Strike) -> None:
 @kind
 def strike_second(strike: Strike) -> None:
     """A second process of a task runs on another host for a while."""
-    service = strike.any("again")
+    _run_beside(strike, strike.any("again"))
+
+
+@kind
+def strike_beside(strike: Strike) -> None:
+    """A second process of a task is started on its host, with its folders, again and again for a while."""
+    _run_beside(strike, strike.any("beside"))
+
+
+@kind
+def strike_copy(strike: Strike) -> None:
+    """The lock and the keys of a task are copied to the host of its second process, which may show them then. The
+    tickets stay: those that were kept ahead would be drawn, and clocks would seem untimely."""
+    number = strike.rng.choice(strike.cluster.scene.seconds)
+    here, there = (strike.cluster.services[f"{it}{number}"].host.disk.folder for it in ("task", "again"))
+    for path in sorted((here / "state").rglob(f"task-{number}.[kl]*")):
+        made = there / path.relative_to(here)
+        made.parent.mkdir(parents=True, exist_ok=True)
+        made.write_bytes(path.read_bytes())  # a file that is there keeps its inode, as cp does
+    strike.tell(f"task{number}")
+
+
+@kind
+def strike_freeze_task(strike: Strike) -> None:
+    """A task stands still, for longer than its leases last."""
+    service = strike.any("task", "again")
+    if service.process is not None:
+        process = service.process
+        process.stop()
+        strike.tell(service.name)
+        strike.lasts_for(strike.rng.uniform(1, strike.leases(2)), process.go_on)
+
+
+def _run_beside(strike: Strike, service: Service) -> None:
     if service.process is not None:
         return
     service.is_wanted = True
