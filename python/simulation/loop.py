@@ -101,7 +101,7 @@ class Loop(asyncio.AbstractEventLoop):
     """The event loop of a process. What it is to call soon stands in a queue, of which one event of the world calls
     all that is there; timers stand in the heap of the world."""
 
-    get_debug = bool  # type: ignore[assignment]  # False, without a call of Python for each future
+    get_debug = bool  # False, without a call of Python for each future
 
     def __init__(self, process: "Process") -> None:
         self.process, self.world = process, process.world
