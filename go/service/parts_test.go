@@ -242,9 +242,9 @@ func TestAPlaneThatRests(t *testing.T) {
 	}
 }
 
-// hedged makes calls at two planes, of which the first one answers after a while, and
-// returns how often each was asked.
-func hedged(t *testing.T, calls int, timeout, while time.Duration) (first, second int, took time.Duration) {
+// hedged makes calls at two planes, so many at a time, of which the first one answers
+// after a while, and returns how often each was asked.
+func hedged(t *testing.T, times, calls int, timeout, while time.Duration) (first, second int, took time.Duration) {
 	t.Helper()
 	var mutex sync.Mutex
 	asked := map[string]int{}
@@ -260,11 +260,19 @@ func hedged(t *testing.T, calls int, timeout, while time.Duration) (first, secon
 	asks := controlOf(t, server("first", while), server("second", 0))
 	asks.timeout = timeout
 	begun := time.Now()
-	for done := 0; done < calls; done++ {
-		_, err := asks.call(context.Background(), request{method: "POST", path: "/grant", late: func(answer) {}})
-		if err != nil {
-			t.Error(err)
+	for ; times > 0; times-- {
+		var calling sync.WaitGroup
+		for made := 0; made < calls; made++ {
+			calling.Add(1)
+			go func() {
+				defer calling.Done()
+				_, err := asks.call(context.Background(), request{method: "POST", path: "/grant", late: func(answer) {}})
+				if err != nil {
+					t.Error(err)
+				}
+			}()
 		}
+		calling.Wait()
 	}
 	took = time.Since(begun)
 	mutex.Lock()
@@ -273,20 +281,20 @@ func hedged(t *testing.T, calls int, timeout, while time.Duration) (first, secon
 }
 
 func TestAHedgedCall(t *testing.T) {
-	first, second, took := hedged(t, 1, time.Minute, 3*time.Second)
+	first, second, took := hedged(t, 1, 1, time.Minute, 3*time.Second)
 	if first != 1 || second != 0 {
 		t.Errorf("%d and %d requests before a third of the time was over", first, second)
 	}
-	first, second, took = hedged(t, 1, 3*time.Second, 10*time.Second)
+	first, second, took = hedged(t, 1, 1, 3*time.Second, 10*time.Second)
 	if first != 1 || second != 1 || took > 3*time.Second {
 		t.Errorf("%d and %d requests, %v", first, second, took)
 	}
 }
 
 func TestHedgesAreATenthOfTheCalls(t *testing.T) {
-	const calls = 150
-	first, second, _ := hedged(t, calls, 30*time.Millisecond, 20*time.Millisecond)
-	if first != calls || second < mostRetries || second > mostRetries+calls/10 {
+	const times, calls = 3, 50
+	first, second, _ := hedged(t, times, calls, 9*time.Second, 5*time.Second)
+	if first != times*calls || second != mostRetries+(times-1)*calls/retryCosts { // those that were saved up come first
 		t.Errorf("%d and %d requests", first, second)
 	}
 }

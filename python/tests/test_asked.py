@@ -291,15 +291,14 @@ async def test_a_hedged_call_goes_on_to_other_planes(two: tuple[Server, Server])
 
 async def test_hedges_are_a_tenth_of_all_calls(two: tuple[Server, Server]) -> None:
     first, second = two
-    first.answers = lambda: after(0.1)
-    async with control_of(first, second, timeout=0.15) as control:
-        for _ in range(60):
-            await control.call("GET")
-        for _ in range(40):
-            await hedged(control, [])
+    first.answers = lambda: after(4.0)
+    async with control_of(first, second, timeout=6.0) as control:
+        for plain in (0, 55):
+            await asyncio.gather(*(control.call("GET") for _ in range(plain)))
+            await asyncio.gather(*(hedged(control, []) for _ in range(20)))
         await asyncio.sleep(0.2)
-    assert first.asked == 100
-    assert 10 <= second.asked <= 20  # a tenth, and ten at first
+    assert first.asked == 95
+    assert second.asked == 17  # ten at first, and a tenth of the 75 calls after them
 
 
 async def test_a_hedged_call_that_is_cancelled_leaves_nothing(two: tuple[Server, Server]) -> None:
