@@ -155,8 +155,9 @@ async def test_a_page_of_elsewhere_in_a_browser(file: Store, tmp_path: Path) -> 
             await tab.until("document.forms.length")
             await tab.value(SENDS.format(url=caller.url))
             assert await tab.until("window.told") == "not read"
-            while forbidden(plane) < 4:  # the form is sent beside the others
-                await asyncio.sleep(0.05)
+            async with asyncio.timeout(browser.PATIENCE):
+                while forbidden(plane) < 4:  # the form is sent beside the others
+                    await asyncio.sleep(0.05)
         assert (await caller.get()).json["draining"] == []
 
 
