@@ -71,7 +71,7 @@ def strike_lose_task(strike: Strike) -> None:
 
 @kind
 def strike_trespass(strike: Strike) -> None:
-    """Callers whose role is too small, or who are not known, make calls for a task, as an assigner and as an admin."""
+    """Callers whose role is too small, or who are unknown, make calls for a task, as an assigner and as an admin."""
     process = Process(strike.world, "trespasser", strike.any("client").host)
 
     def begin() -> None:
