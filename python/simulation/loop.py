@@ -6,7 +6,7 @@ from collections.abc import Callable
 from concurrent.futures import Executor
 from contextvars import Context, copy_context
 from functools import partial
-from typing import TYPE_CHECKING, Any, cast
+from typing import TYPE_CHECKING, Any
 from weakref import ref
 
 from .world import SECOND, STEP, Action
@@ -101,9 +101,6 @@ class Loop(asyncio.AbstractEventLoop):
     """The event loop of a process. What it is to call soon stands in a queue, of which one event of the world calls
     all that is there; timers stand in the heap of the world."""
 
-    # False, without a call of Python for each future.
-    get_debug = cast(Callable[[asyncio.AbstractEventLoop], bool], bool)
-
     def __init__(self, process: "Process") -> None:
         self.process, self.world = process, process.world
         self._ready: deque[Call] = deque()
@@ -112,6 +109,9 @@ class Loop(asyncio.AbstractEventLoop):
         self._most = FEW  # tasks in the list
         self._workers: dict[Any, Workers] = {}
         self._made = 0
+
+    def get_debug(self) -> bool:
+        return False
 
     def is_running(self) -> bool:
         return True
