@@ -164,7 +164,7 @@ class Forwarding:
 
     async def probe(self) -> None:
         """Asks the other planes whether they answer."""
-        asked = Carried("", "", "GET", "/healthz", {}, b"", False)
+        asked = Carried(EVERYBODY.packed(), "", "GET", "/healthz", {}, b"", False)
         await asyncio.gather(*(self._fetch(it, asked, self._peers.standby / 2) for it in self._peers.others()))
 
     async def give(self, job: Job, process: int, seconds: float) -> bool:

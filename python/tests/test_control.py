@@ -118,13 +118,15 @@ async def test_names_of_jobs(file: Store, tmp_path: Path) -> None:
 async def test_lives_are_given_once(file: Store, tmp_path: Path) -> None:
     async with running(file, tmp_path / "logs") as (_, caller):
         await caller.create()
-        told = [(await caller.post("tasks/7/life")).json for _ in range(3)]
-        assert told == [{"life": n, "last": n - 1} for n in (1, 2, 3)]
-        assert (await caller.post("tasks/8/life")).json == {"life": 1, "last": 0}
+        told = [(await caller.post(f"tasks/{task}/life")).json for task in (7, 7, 7, 8)]
+        keys = {one.pop("key") for one in told}
+        assert told == [{"life": n, "last": n - 1} for n in (1, 2, 3, 1)]
+        assert len(keys) == 4 and all(len(bytes.fromhex(key)) == 32 for key in keys)
         for task in ("0", "65", "-1", "x", "1e1", "\u0661"):
             assert (await caller.post(f"tasks/{task}/life")).status == 400, task
     async with running(file, tmp_path / "logs") as (_, caller):
-        assert (await caller.post("tasks/7/life")).json == {"life": 4, "last": 3}
+        told = (await caller.post("tasks/7/life")).json
+        assert (told["life"], told["last"]) == (4, 3) and told["key"] not in keys
 
 
 # Calls of a table ------------------------------------------------------------------------------
@@ -635,7 +637,7 @@ async def test_most_grants_store_nothing(file: Store, tmp_path: Path) -> None:
         await begun(caller)
         swaps.clear()
         told = [await caller.grant(1) for _ in range(42)]
-        assert len(swaps) == 3  # the first lets the life in; the commit saved ahead too
+        assert len(swaps) == 3  # the first, which lets the life in, and each twentieth after it
         assert [int(one.json["value"]["number"]) for one in told] == list(range(1, 43))
         swaps.clear()
         assert (await caller.post("renew", {"term": 9})).status == 409
@@ -643,15 +645,15 @@ async def test_most_grants_store_nothing(file: Store, tmp_path: Path) -> None:
         assert not swaps
         plane.jobs["shop"].job.drop()  # as a kill: nothing is settled
         killed = await caller.grant(1)
-        assert int(killed.json["value"]["number"]) == 61  # after 40 and the 20 saved ahead
+        assert int(killed.json["value"]["number"]) == 62  # after 41 and the 20 saved ahead
         assert killed.reading is not None and told[-1].reading is not None
         assert killed.reading >= told[-1].reading
     async with running(trouble, logs, ahead=ahead) as (_, caller):  # type: ignore[arg-type]
         again = await caller.grant(1)
-        assert int(again.json["value"]["number"]) == 62
+        assert int(again.json["value"]["number"]) == 63
         assert again.reading is not None and again.reading >= killed.reading
     restores = [line for line in lines_of(logs) if line["do"] == "restore"]
-    assert [line["granted"] for line in restores] == [60, 61]
+    assert [line["granted"] for line in restores] == [61, 62]
 
 
 async def test_a_restart_after_saving_ahead_waits(file: Store, tmp_path: Path) -> None:
@@ -698,6 +700,7 @@ async def test_two_planes_never_both_write(
         await a.create({**POLICY, "guard": 10_000, "bridge": 10_000, "job": 20_000})
         await a.change(await a.take(), 1, WHOLE)
         await until(lambda: two.peers.others() == [40] and job in two.jobs and two.jobs[job].job.holder == 40)
+        await until(lambda: one.peers.others() == [41])
         told = [await a.grant(1), await b.grant(1)]
         for silenced, other, callers in ((one, two, (b, a)), (two, one, (b, a))):
             with monkeypatch.context() as patched:
@@ -706,7 +709,7 @@ async def test_two_planes_never_both_write(
                 await until(lambda: not silenced.jobs[job].job.is_held)  # it looked, and dropped its table
                 told += [await caller.grant(1) for caller in callers]
             await until(lambda: other.peers.others() == [silenced.settings.process])
-        assert [answer.status for answer in told] == [200] * 6
+        assert [answer.status for answer in told] == [200] * 6, told
         assert [answer.json["value"]["number"] for answer in told] == ["1", "2", "3", "4", "5", "6"]
         readings = [answer.reading for answer in told]
         assert readings == sorted(readings)  # type: ignore[type-var]

@@ -165,7 +165,8 @@ class Service:
     def drain(self, task: int) -> None:
         """Asks the control plane to let a task own no more keys. Raises Ended."""
         body = json.dumps({"task": task}).encode()
-        request = urllib.request.Request(f"{self.plane.url}/jobs/{JOB}/drain", body, method="POST")
+        headers = {"Content-Type": "application/json"}
+        request = urllib.request.Request(f"{self.plane.url}/jobs/{JOB}/drain", body, headers, method="POST")
         try:
             urllib.request.urlopen(request, timeout=10).close()
         except OSError as why:
