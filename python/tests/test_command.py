@@ -49,7 +49,8 @@ def process(*words: str) -> Iterator[tuple["subprocess.Popen[str]", str]]:
 
 
 async def test_kills(tmp_path: Path) -> None:
-    """Over kills by -9 lives and numbers of grants rise, and the logs hold each answered call."""
+    """Over kills by -9 lives and numbers of grants rise, and the logs hold each answered call. The life that was let in
+    first goes on: later ones wait until its leases have ended."""
     words = ["--store", f"sqlite:{tmp_path}/jobs", "--logs", f"{tmp_path}/logs", "--assigner", "0"]
     lives, numbers, readings = [], [], []
     for turn in range(5):
@@ -60,7 +61,8 @@ async def test_kills(tmp_path: Path) -> None:
                     await caller.create({**POLICY, "numbers": 1 << 32})
                     await caller.change(await caller.take(), 1, [[0, [1]], [HALF, [2]]])
                 lives.append((await caller.post("tasks/1/life")).json["life"])
-                told = [await caller.grant(1, lives[-1]) for _ in range(5)]
+                caller.lives = {1: 1, 2: int(turn > 0)}  # as they were drawn
+                told = [await caller.grant(1) for _ in range(5)]
                 numbers += [int(answer.json["value"]["number"]) for answer in told]
                 readings += [answer.reading or 0 for answer in told]
                 asked = [asyncio.create_task(caller.grant(2)) for _ in range(10)]
