@@ -49,8 +49,8 @@ def process(*words: str) -> Iterator[tuple["subprocess.Popen[str]", str]]:
 
 
 async def test_kills(tmp_path: Path) -> None:
-    """Over kills by -9 lives and numbers of grants rise, and the logs hold each answered call. The life that was let in
-    first goes on: later ones wait until its leases have ended."""
+    """Over kills by -9 lives and numbers of grants rise, and the logs hold each answered call. The life that was let
+    in first goes on: later ones wait until its leases have ended."""
     words = ["--store", f"sqlite:{tmp_path}/jobs", "--logs", f"{tmp_path}/logs", "--assigner", "0"]
     lives, numbers, readings = [], [], []
     for turn in range(5):

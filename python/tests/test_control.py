@@ -125,8 +125,8 @@ async def test_lives_are_given_once(file: Store, tmp_path: Path) -> None:
         for task in ("0", "65", "-1", "x", "1e1", "\u0661"):
             assert (await caller.post(f"tasks/{task}/life")).status == 400, task
     async with running(file, tmp_path / "logs") as (_, caller):
-        told = (await caller.post("tasks/7/life")).json
-        assert (told["life"], told["last"]) == (4, 3) and told["key"] not in keys
+        later = (await caller.post("tasks/7/life")).json
+        assert (later["life"], later["last"]) == (4, 3) and later["key"] not in keys
 
 
 # Calls of a table ------------------------------------------------------------------------------
