@@ -11,6 +11,7 @@ from aiohttp import web
 from hourstable import logs
 from hourstable.jobs import Made, is_number
 from hourstable.metrics import word_of
+from hourstable.rights import NotAdmitted
 from hourstable.table_calls import Malformed
 
 T = TypeVar("T")
@@ -81,6 +82,15 @@ def refused(made: Made[Any]) -> bytes:
     assert made.refusal is not None
     why = {"refused": word_of(made.refusal.name), "told": made.refusal.carried}
     return logs.COMPACT.encode(why).encode()
+
+
+def not_admitted(why: NotAdmitted) -> web.Response:
+    """Returns the answer to a life that gets no lease: the word, and the life that is let in. One that waits is told
+    after how many seconds it may be let in."""
+    made: dict[str, Any] = {"refused": why.word, "told": {}, "admitted": why.admitted}
+    if why.after is not None:
+        made["after"] = why.after
+    return answer_of(made, 409)
 
 
 def told(made: Made[T], answer: Callable[[T], web.Response]) -> web.Response:

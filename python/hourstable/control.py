@@ -19,7 +19,8 @@ from aiohttp import web
 from hourstable import page
 from hourstable import tickets as ticketing
 from hourstable.answers import (
-    TASKS, answer_of, asker_in, failure, job_in, json_of, member, message_of, name_in, number_in, refused, told,
+    TASKS, answer_of, asker_in, failure, job_in, json_of, member, message_of, name_in, not_admitted, number_in,
+    refused, told,
 )
 from hourstable.connections import BACKLOG, Connections
 from hourstable.context import note
@@ -36,6 +37,7 @@ from hourstable.overload import Overload
 from hourstable.readiness import Readiness
 from hourstable.record import Record
 from hourstable.request_ids import name_answer, traced
+from hourstable.rights import NotAdmitted, Rights
 from hourstable.store import Conflict, Damaged, LivesSpent, NoSuchJob, Store, StoreFailed
 from hourstable.supervisor import Supervisor
 from hourstable.table_calls import Call, Commit, Free, Grant, Malformed, Propose, Renew, Take, term_of
@@ -57,7 +59,7 @@ PAGES = {  # what people look at
 log = logging.getLogger("hourstable.control")
 
 
-REFUSED = Malformed, NoSuchJob, Conflict, LivesSpent, Limited, Replaced  # which say nothing against a job
+REFUSED = Malformed, NoSuchJob, Conflict, LivesSpent, Limited, Replaced, NotAdmitted  # they say nothing against a job
 EXPECTED = StoreFailed, OSError, MemoryError, Malformed, ValueError  # of a job that fails, or of its store
 ANSWERED = (*REFUSED, StoreFailed, OSError, MemoryError, web.HTTPException)
 
@@ -232,7 +234,7 @@ class Plane:
             job = self._job(name)
             try:
                 await job.load()
-                job.lives = await self.store.lives(name)
+                await job.read_lives()
             except BaseException as error:
                 job.close()
                 if isinstance(error, Exception) and not isinstance(error, NoSuchJob):
@@ -310,7 +312,7 @@ class Plane:
                                 f" {LEAST_GUARD} and usually 10000")
             self._job(name).try_log()  # a job whose log cannot be opened is not stored
             try:
-                await self.store.create(name, text, kept)
+                await self.store.create(name, text, kept, Rights().text(None))
                 self.record.add("create", name, policy=members)
                 await self.followed(name)
                 return True
@@ -333,7 +335,7 @@ class Plane:
                 {field: getattr(row, field) for field, _ in row._fields_} for row in job.rows()
             ],
             "alive": followed.alive(now), "draining": followed.draining(),
-            "since_commit": round(now - job.last_commit, 3),
+            "since_commit": round(now - job.last_commit, 3), "admitted": job.admitted(),
         }
 
     def shown(self) -> list[Shown]:
@@ -468,6 +470,8 @@ class Plane:
                 return failure(404, f"there is no job {error}: PUT /jobs/{error} with its policy creates it")
             case Conflict() | LivesSpent():
                 return failure(409, str(error))
+            case NotAdmitted():
+                return not_admitted(error)
             case Limited():
                 self.metrics.limited.labels(error.limit).inc()
                 made = failure(429, str(error), error.after, limit=error.limit)

@@ -8,7 +8,7 @@ from hourstable import logs
 from hourstable.library import JobTerm, Table
 
 if TYPE_CHECKING:
-    from hourstable.jobs import Job
+    from hourstable.jobs import Held, Job
 
 T = TypeVar("T")
 MOST_NOTES = 4096  # of which a job remembers the answers
@@ -39,6 +39,9 @@ class Call(ABC, Generic[T]):
         """Returns the result of an earlier call that this one repeats, None if it repeats none."""
         return None
 
+    def admit(self, job: "Job", held: "Held", at: int) -> None:
+        """Raises NotAdmitted if who asks may not act at a reading, and Malformed if there is no such life."""
+
     def done(self, job: "Job", result: T) -> None:
         """Remembers the call, which is stored."""
 
@@ -51,6 +54,11 @@ class Grant(Call[bytes]):
     def __init__(self, task: int, life: int) -> None:
         self.task, self.life = task, life
         self.members = {"task": task, "life": life}
+
+    def admit(self, job: "Job", held: "Held", at: int) -> None:
+        if self.task not in job.lives or self.life > job.lives[self.task].life:
+            raise Malformed(f"task {self.task} has had no life {self.life}")
+        held.rights.judge(self.task, self.life, at, held.ends_of(self.task, at))
 
     def play(self, table: Table, at: int) -> bytes:
         return table.grant(self.task, self.life, at)
