@@ -13,6 +13,7 @@ import logging
 import os
 from collections import OrderedDict, deque
 from collections.abc import Awaitable, Callable, Collection, Mapping, Sequence
+from contextlib import suppress
 from dataclasses import dataclass, field
 from pathlib import Path
 from typing import Any, Generic, NamedTuple, TypeVar
@@ -20,7 +21,7 @@ from typing import Any, Generic, NamedTuple, TypeVar
 from hourstable import library, logs
 from hourstable.clock import JobClock
 from hourstable.library import Policy, Refused, Table
-from hourstable.rights import NotAdmitted, Rights, Seat
+from hourstable.rights import SECRET, NotAdmitted, Rights, WrongKey
 from hourstable.standstill import Standstill
 from hourstable.store import Conflict, Damaged, Holding, Life, NoSuchJob, Store, Stored, StoreFailed
 from hourstable.system import SYSTEM, System, make_folder
@@ -135,10 +136,10 @@ class Held:
         return max((row.table_ends for row in self.table.rows() if row.task == task), default=0)
 
     def take_grants(self, tasks: Collection[int]) -> None:
-        """Takes into the rights what the table granted to tasks."""
+        """Takes into the rights until when the table granted leases to tasks."""
         for row in self.table.rows() if tasks else ():
             if row.task in tasks:
-                self.rights.granted(row.task, max(row.life, self.rights.seat(row.task).life), row.table_ends)
+                self.rights.reach(row.task, row.table_ends)
 
 
 class Made(NamedTuple, Generic[T]):
@@ -230,7 +231,7 @@ class Job:
         self._seen = Standstill(self._now, settings.standby / 4)
         self._wakes: set[asyncio.Future[None]] = set()  # those who wait for another view
         self._rows: list[library.Row] = []
-        self._seats: dict[int, Seat] = {}  # as they were read last
+        self._rights = Rights(b"")  # as it was read last
         self._owners: tuple[bytes | None, set[int]] = None, set()  # those of an assignment
         self.policy: Policy | None = None
         self.members: dict[str, Any] = {}
@@ -350,11 +351,21 @@ class Job:
             life = self.lives.get(task, Life(0, 0))
             self.lives[task] = Life(max(life.life, told.life), max(life.drained, told.drained))
 
-    async def raise_life(self, task: int) -> int:
-        """Returns a new life of a task, which no other call returns."""
+    async def raise_life(self, task: int) -> tuple[int, str]:
+        """Returns a new life of a task, which no other call returns, and its key; none if a version up to 1.0 wrote
+        the row, and another plane holds the job."""
+        if not self.rights.secret:
+            with suppress(Replaced):
+                async with self._lock:
+                    await self._hold()
         life = await self.ask("life", self._store.raise_life, self.name, task)
         self.know({task: Life(life, 0)})
-        return life
+        return life, self.rights.key(task, life) if self.rights.secret else ""
+
+    @property
+    def rights(self) -> Rights:
+        """Who may act, as this plane knows it."""
+        return self._held.rights if self._held is not None else self._rights
 
     async def drain(self, task: int) -> None:
         """Drains the current life of a task."""
@@ -367,7 +378,7 @@ class Job:
         with self._restored(stored) as table:
             self._show_table(table)
         self.term = term_in(stored.kept)
-        self._seats = Rights.read(self.name, stored.rights).seats if stored.rights else {}
+        self._rights = Rights.read(self.name, stored.rights) if stored.rights else Rights(b"")
 
     def _restored(self, stored: Stored) -> Table:
         """Returns the table of what is stored, as a restart leaves it."""
@@ -470,6 +481,9 @@ class Job:
             await clock.wait()
             version, line = await self._write_restore(stored, row, rights)
             holder = self.settings.incarnation
+        elif rights.is_changed:  # the keys of lives follow from it
+            version = await self._write((version, holder), stored.kept, None, rights)
+            holder = self.settings.incarnation
         self._seen.forget()
         unknown = {task: seat.deadline for task, seat in rights.seats.items()}
         table = self._restored(stored)
@@ -478,7 +492,9 @@ class Job:
     async def _rights_of(self, stored: Stored, row: Row | None) -> Rights:
         """Returns who may act. If a version up to 1.0 wrote the row last, the lives that were given out count."""
         ticket = row.ticket() if row is not None else None
-        rights = Rights.read(self.name, stored.rights) if stored.rights else Rights()
+        rights = Rights.read(self.name, stored.rights) if stored.rights else Rights(b"")
+        if not rights.secret:
+            rights.secret = self.settings.system.secret(SECRET)
         if not stored.rights or rights.ticket != ticket:
             await self.read_lives()
             rights.after_older(self.lives, deadline_in(stored.kept))
@@ -505,11 +521,11 @@ class Job:
         self._counters.restored(self.name)
         return version, line
 
-    async def _write(self, before: tuple[int, str], kept: bytes, row: Row, rights: Rights) -> int:
+    async def _write(self, before: tuple[int, str], kept: bytes, row: Row | None, rights: Rights) -> int:
         """Writes the row in place of that of a version and a holder, and returns the new version."""
         version, holder = before
-        holding = Holding(holder, self.settings.incarnation, rights.text(row.ticket()))
-        given = self.name, version, kept, row.text(), holding
+        holding = Holding(holder, self.settings.incarnation, rights.text(row.ticket() if row else None))
+        given = self.name, version, kept, row.text() if row else None, holding
         written = await self.ask("swap", self._store.swap, *given)
         rights.is_changed = False
         return written
@@ -634,14 +650,14 @@ class Job:
             except NotAdmitted as why:
                 denied.append((one, why))
                 continue
-            except Malformed as error:
+            except (Malformed, WrongKey) as error:
                 one.fail(error)
                 continue
             made = self._play_one(held, one, at)
             if made is not None:
                 played.append(made)
                 if isinstance(call, Grant) and made.made.refusal is None:
-                    held.rights.granted(call.task, call.life, 0)
+                    held.rights.admit(call.asked)
                     granted.add(call.task)
         held.take_grants(granted)
         return played, denied
@@ -745,8 +761,7 @@ class Job:
 
     def admitted(self) -> dict[str, int]:
         """Returns the life of each task that is let in, as this plane knows it."""
-        seats = self._held.rights.seats if self._held is not None else self._seats
-        return {str(task): seat.life for task, seat in sorted(seats.items()) if seat.life}
+        return {str(task): seat.life for task, seat in sorted(self.rights.seats.items()) if seat.life}
 
     def kept(self) -> dict[str, Any]:
         """Returns the value of what is stored of a table that this plane holds."""

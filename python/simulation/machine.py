@@ -32,6 +32,9 @@ class Machine(System):
     def boot(self) -> bytes:
         return self._host.boot_id()
 
+    def secret(self, length: int) -> bytes:
+        return self.process.rng.randbytes(length)
+
     def random(self) -> Random:
         return Random(self.process.rng.getrandbits(64))
 

@@ -266,10 +266,12 @@ async def test_calls_on_a_full_disk(file: Store, tmp_path: Path) -> None:
     system = Full()
     async with running(file, tmp_path / "logs", system=system) as (_, caller):
         await begun(caller)
+        await caller.begin(1)
+        await caller.begin(2)
         system.is_full = True
         for told in (await caller.grant(1), await caller.grant(2), await caller.post("take", {"assigner": 2})):
             assert (told.status, told.json["refused"], told.headers["Retry-After"]) == (503, "disk", "1")
-        assert (await caller.post("tasks/1/life")).json["life"] == 1
+        assert (await caller.post("tasks/1/life")).json["life"] == 2
         assert (await caller.get("/phase")).json["committed"] == 1
         assert "No space left" in (await failed(caller))["shop"]["why"]
         system.is_full = False
@@ -429,7 +431,9 @@ async def test_several_grants_of_which_one_fails(file: Store, tmp_path: Path) ->
     """Each is answered by itself, also if what nobody expects is met for one job."""
     async with running(file, tmp_path / "logs") as (_, caller):
         for name in ("other", "shop"):
-            await begun(Caller(caller.url, caller.session, name))
+            other = Caller(caller.url, caller.session, name)
+            await begun(other)
+            await other.begin(1)
     store: Any = Unreadable(file)
     async with running(store, tmp_path / "logs") as (_, caller):
         asked = [{"job": job, "task": 1, "life": 1} for job in ("shop", "other", "shop")]

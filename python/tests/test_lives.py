@@ -1,6 +1,8 @@
 """Of the processes of one task one is let in: at no moment may leases of two of its lives last."""
 
 import asyncio
+import hashlib
+import hmac
 import json
 from collections.abc import Sequence
 from pathlib import Path
@@ -14,6 +16,7 @@ needed.library()
 
 from hourstable.control import Plane  # noqa: E402
 from hourstable.jobs import Job  # noqa: E402
+from hourstable.library import ended_note  # noqa: E402
 from hourstable.store import Conflict, Holding, Store, Stored  # noqa: E402
 from serving import HALF, POLICY, Answer, Caller, running  # noqa: E402
 
@@ -199,7 +202,7 @@ async def test_a_row_of_a_newer_version_is_refused_by_name(file: Store, tmp_path
         assert (await caller.grant(1, 1)).status == 200
         job_of(plane).drop()
         stored = await loaded(file)
-        rights = json.dumps({"version": 99, "ticket": 0, "tasks": {}})
+        rights = json.dumps({**json.loads(stored.rights), "version": 99})
         await file.swap("shop", stored.version, stored.kept, stored.line, Holding(stored.holder, "newer", rights))
         failed = await caller.grant(1, 1)
         assert failed.status == 503 and "form 99" in failed.json["error"]
@@ -231,3 +234,144 @@ async def test_each_start_of_a_plane_is_another_holder(file: Store, tmp_path: Pa
             holders.append((await loaded(file)).holder)
             assert holders[-1] == plane.settings.incarnation
     assert len(set(holders)) == 2 and all(holders)
+
+
+# Keys of lives ---------------------------------------------------------------------------------
+
+
+class Unit:
+    """A process of a task as a plane sees it: the lives that it drew, and where it runs."""
+
+    def __init__(self, caller: Caller, task: int, **place: str) -> None:
+        self.caller, self.task, self.place = caller, task, place
+        self.keys: dict[int, str] = {}
+
+    async def draw(self) -> int:
+        told = (await self.caller.post(f"tasks/{self.task}/life")).json
+        life: int = told["life"]
+        self.keys[life] = told["key"]
+        return life
+
+    async def grant(self, life: int, **members: object) -> Answer:
+        shown = {str(other): key for other, key in self.keys.items() if other != life}
+        asked = {"task": self.task, "life": life, "key": self.keys[life], "place": self.place, "shown": shown}
+        return await self.caller.post("grant", {**asked, **members})
+
+    async def free(self, note: bytes, key: str) -> Answer:
+        headers = {"Hourstable-Key": key} if key else {}
+        return await self.caller.ask("POST", "/jobs/shop/free", note, headers)
+
+
+HERE = {"boot": "b1", "device": "8", "inode": "42"}
+
+
+@pytest.mark.parametrize(("before", "after", "is_let_in"), [
+    ({"process": "p1", **HERE}, {"process": "p1"}, True),  # its next slicelet
+    ({"process": "p1", **HERE}, {"process": "p2", **HERE}, True),  # started again on its host
+    ({"process": "p1", **HERE}, {"process": "p2", **HERE, "boot": "b2"}, False),
+    ({"process": "p1", **HERE}, {"process": "p2", **HERE, "device": "9"}, False),
+    ({"process": "p1", **HERE}, {"process": "p2", **HERE, "inode": "43"}, False),  # a copied folder
+    ({"process": "p1"}, {"process": "p2"}, False),
+    ({}, {}, False),
+])
+async def test_who_is_let_in_at_once(
+    file: Store, tmp_path: Path, before: dict[str, str], after: dict[str, str], is_let_in: bool
+) -> None:
+    async with running(file, tmp_path / "logs") as (plane, caller):
+        await begun(caller)
+        first, second = Unit(caller, 1, **before), Unit(caller, 1, **after)
+        assert (await first.grant(await first.draw())).status == 200
+        job_of(plane).drop()  # it is stored, and no grace is waited for
+        life = await second.draw()
+        unknown = await second.grant(life)
+        assert refusal(unknown) == ("waiting", life - 1)  # it has not the key
+        second.keys |= first.keys
+        answer = await second.grant(life)
+        assert answer.status == (200 if is_let_in else 409), answer
+        wrong = await second.grant(life, shown={str(life - 1): second.keys[life]})
+        assert wrong.status == answer.status
+
+
+async def test_grants_need_the_key_of_their_life(file: Store, tmp_path: Path) -> None:
+    async with running(file, tmp_path / "logs") as (_, caller):
+        await begun(caller)
+        unit = Unit(caller, 1)
+        life, next_life = await unit.draw(), await unit.draw()
+        assert (await unit.grant(life, key=unit.keys[next_life])).status == 403
+        assert (await unit.grant(life)).status == 200
+        for key in ("", unit.keys[next_life], unit.keys[life][:-1], "\u20ac"):
+            told = await unit.grant(life, key=key)
+            assert (told.status, told.json["refused"]) == (403, "key")
+
+
+async def test_notes_and_loads_need_the_key_of_their_life(file: Store, tmp_path: Path) -> None:
+    async with running(file, tmp_path / "logs") as (_, caller):
+        await begun(caller)
+        unit = Unit(caller, 1)
+        life = await unit.draw()
+        grant = (await unit.grant(life)).json["value"]
+        for key in ("", "0" * 64):
+            assert (await unit.free(note_of(grant), key)).status == 403
+        loads: dict[str, object] = {"task": 1, "loads": [], "life": life}
+        for wrong in ({}, {"key": "0" * 64}):
+            assert (await caller.post("loads", {**loads, **wrong})).status == 403
+        assert (await caller.post("loads", {**loads, "key": unit.keys[life]})).status == 204
+        assert (await unit.free(note_of(grant), unit.keys[life])).json == {"freed": 1}
+
+
+async def test_a_life_that_may_have_leases_has_not_ended(file: Store, tmp_path: Path) -> None:
+    """A process with a copied folder has the key; the note of an ended life would free what is still served."""
+    async with running(file, tmp_path / "logs") as (_, caller):
+        await begun(caller)
+        unit = Unit(caller, 1, process="p1")
+        life = await unit.draw()
+        assert (await unit.grant(life)).status == 200
+        next_life = await unit.draw()
+        ended = ended_note("shop", 1, life, "guard")
+        assert (await unit.free(ended, unit.keys[life])).status == 400
+        assert (await unit.grant(next_life)).status == 200
+        assert (await unit.free(ended, "")).status == 403
+        assert (await unit.free(ended, unit.keys[life])).json == {"freed": 1}
+
+
+async def test_a_life_without_a_key_is_of_a_version_up_to_1_0(file: Store, tmp_path: Path) -> None:
+    """It is let in, and who shows its key later is somebody else, who draws another life."""
+    async with running(file, tmp_path / "logs") as (_, caller):
+        await begun(caller)
+        unit = Unit(caller, 1)
+        life = await unit.draw()
+        assert (await unit.grant(life, key="")).status == 200
+        assert (await unit.grant(life, key="")).status == 200
+        assert refusal(await unit.grant(life)) == ("overtaken", life)
+        assert refusal(await unit.grant(await unit.draw(), key="")) == ("waiting", life)
+
+
+async def test_keys_outlast_planes(file: Store, tmp_path: Path) -> None:
+    async with running(file, tmp_path / "logs") as (_, caller):
+        await begun(caller)
+        unit = Unit(caller, 1)
+        life = await unit.draw()
+        assert (await unit.grant(life)).status == 200
+    async with running(file, tmp_path / "logs", process=1) as (_, caller):
+        unit.caller = caller
+        assert (await unit.grant(life, key="")).status == 403
+        assert (await unit.grant(life)).status == 200
+
+
+async def test_a_job_of_a_version_up_to_1_0_gets_a_secret(file: Store, tmp_path: Path) -> None:
+    """Also one that was never called: keys that are given out are those of the next plane."""
+    async with running(file, tmp_path / "logs") as (_, caller):
+        assert (await caller.create()).status == 201
+    stored = await loaded(file)
+    await file.create("old", stored.policy, stored.kept.replace(b"shop", b"old"))
+    keys = []
+    for _ in range(2):
+        async with running(file, tmp_path / "logs") as (_, caller):
+            caller.job = "old"
+            unit = Unit(caller, 1)
+            await unit.draw()
+            keys.append(unit.keys)
+    secret = json.loads((await loaded(file, "old")).rights)["secret"]
+    for life, told in enumerate(keys, 1):
+        expected = hmac.new(bytes.fromhex(secret), f"task 1 life {life}".encode(), hashlib.sha256)
+        assert told == {life: expected.hexdigest()}
