@@ -36,7 +36,7 @@ class Plane:
             return json.loads(answer.read())
 
     def begin(self, job: str, policy: object, slices: int = 1, tasks: int = 1) -> None:
-        """Creates a job, and lets tasks own equal slices in turn."""
+        """Creates a job, lets tasks own equal slices in turn, and draws a life of each task that there may be."""
         self.ask("PUT", f"/jobs/{job}", policy)
         term = self.ask("POST", f"/jobs/{job}/take", {"assigner": 1})["number"]
         starts = [((1 << 63) * at // slices, 1 + at % tasks) for at in range(slices)]
@@ -44,6 +44,8 @@ class Plane:
         message = {"job": job, "type": "assignment", "value": value, "version": 2}
         self.ask("POST", f"/jobs/{job}/propose?term={term}", message)
         self.ask("POST", f"/jobs/{job}/commit", {"term": term})
+        for task in range(1, 65):
+            self.ask("POST", f"/jobs/{job}/tasks/{task}/life", {})
 
     def seconds(self) -> float:
         """Returns how many seconds of a processor the plane has used."""

@@ -11,10 +11,13 @@ from aiohttp import web
 from hourstable import logs
 from hourstable.jobs import Made, is_number
 from hourstable.metrics import word_of
+from hourstable.rights import Asked, NotAdmitted, Place
 from hourstable.table_calls import Malformed
 
 T = TypeVar("T")
 READING = "Hourstable-Reading"
+KEY = "Hourstable-Key"  # of the life that gives leases back, whose body is a message
+MOST_SHOWN, MOST_WORD = 8, 128  # lives whose keys are shown; characters of a key or a part of a place
 TASKS, LIVES = range(1, 65), range(1, 1 << 32)
 JSON = {"Content-Type": "application/json"}
 
@@ -55,9 +58,28 @@ def member(given: dict[str, Any], name: str, limits: range) -> int:
     return value
 
 
-def asker_in(given: dict[str, Any]) -> tuple[int, int]:
-    """Returns the task and the life that ask for a grant."""
-    return member(given, "task", TASKS), member(given, "life", LIVES)
+def asked_in(given: dict[str, Any]) -> Asked:
+    """Returns who asks for a grant. Raises Malformed."""
+    task, life, key = member(given, "task", TASKS), member(given, "life", LIVES), word_in(given, "key")
+    place, shown = given.get("place", {}), given.get("shown", {})
+    if not isinstance(place, dict) or not isinstance(shown, dict) or len(shown) > MOST_SHOWN:
+        raise Malformed(f"place is no object, or shown is none of at most {MOST_SHOWN} lives")
+    where = Place(*(word_in(place, name) for name in Place._fields))
+    return Asked(task, life, key, where, tuple((_life_of(text), word_in(shown, text)) for text in shown))
+
+
+def word_in(given: dict[str, Any], name: str) -> str:
+    """Returns a short text, empty if it is not there. Raises Malformed."""
+    text = given.get(name, "")
+    if not isinstance(text, str) or len(text) > MOST_WORD:
+        raise Malformed(f"{name} is no text of at most {MOST_WORD} characters")
+    return text
+
+
+def _life_of(text: str) -> int:
+    if not (text.isascii() and text.isdigit() and len(text) <= 10):
+        raise Malformed("shown has a life that is no number")
+    return int(text)
 
 
 def answer_of(value: object, status: int = 200) -> web.Response:
@@ -81,6 +103,15 @@ def refused(made: Made[Any]) -> bytes:
     assert made.refusal is not None
     why = {"refused": word_of(made.refusal.name), "told": made.refusal.carried}
     return logs.COMPACT.encode(why).encode()
+
+
+def not_admitted(why: NotAdmitted) -> web.Response:
+    """Returns the answer to a life that gets no lease: the word, and the life that is let in. One that waits is told
+    after how many seconds it may be let in."""
+    made: dict[str, Any] = {"refused": why.word, "told": {}, "admitted": why.admitted}
+    if why.after is not None:
+        made["after"] = why.after
+    return answer_of(made, 409)
 
 
 def told(made: Made[T], answer: Callable[[T], web.Response]) -> web.Response:

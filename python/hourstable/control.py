@@ -19,7 +19,8 @@ from aiohttp import web
 from hourstable import page
 from hourstable import tickets as ticketing
 from hourstable.answers import (
-    TASKS, answer_of, asker_in, failure, job_in, json_of, member, message_of, name_in, number_in, refused, told,
+    KEY, LIVES, TASKS, answer_of, asked_in, failure, job_in, json_of, member, message_of, name_in, not_admitted,
+    number_in, refused, told, word_in,
 )
 from hourstable.connections import BACKLOG, Connections
 from hourstable.context import note
@@ -36,6 +37,7 @@ from hourstable.overload import Overload
 from hourstable.readiness import Readiness
 from hourstable.record import Record
 from hourstable.request_ids import name_answer, traced
+from hourstable.rights import SECRET, Asked, NotAdmitted, Rights, WrongKey
 from hourstable.store import Conflict, Damaged, LivesSpent, NoSuchJob, Store, StoreFailed
 from hourstable.supervisor import Supervisor
 from hourstable.table_calls import Call, Commit, Free, Grant, Malformed, Propose, Renew, Take, term_of
@@ -57,7 +59,9 @@ PAGES = {  # what people look at
 log = logging.getLogger("hourstable.control")
 
 
-REFUSED = Malformed, NoSuchJob, Conflict, LivesSpent, Limited, Replaced  # which say nothing against a job
+REFUSED = (  # what says nothing against a job
+    Malformed, NoSuchJob, Conflict, LivesSpent, Limited, Replaced, NotAdmitted, WrongKey,
+)
 EXPECTED = StoreFailed, OSError, MemoryError, Malformed, ValueError  # of a job that fails, or of its store
 ANSWERED = (*REFUSED, StoreFailed, OSError, MemoryError, web.HTTPException)
 
@@ -232,7 +236,7 @@ class Plane:
             job = self._job(name)
             try:
                 await job.load()
-                job.lives = await self.store.lives(name)
+                await job.read_lives()
             except BaseException as error:
                 job.close()
                 if isinstance(error, Exception) and not isinstance(error, NoSuchJob):
@@ -277,19 +281,17 @@ class Plane:
         finally:
             timer.cancel()
 
-    async def begin_grant(
-        self, name: str, task: int, life: int
-    ) -> "asyncio.Future[Made[bytes]]":
+    async def begin_grant(self, name: str, asked: Asked) -> "asyncio.Future[Made[bytes]]":
         """Asks the table for a grant. Raises NoSuchJob and Limited."""
         followed, now = await self.followed(name), self._now()
         bucket = followed.buckets.setdefault(
-            task, Bucket(self.limits.grants, self.limits.burst, now)
+            asked.task, Bucket(self.limits.grants, self.limits.burst, now)
         )
         after = bucket.take(now)
         if after > 0:
             raise Limited("grants", after)
-        followed.seen[task] = now
-        return self._begin(followed.job, Grant(task, life))
+        followed.seen[asked.task] = now
+        return self._begin(followed.job, Grant(asked))
 
     async def create(self, name: str, given: object) -> bool:
         """Creates a job, and returns whether it is new. Raises Malformed, Limited and Conflict, if
@@ -310,7 +312,8 @@ class Plane:
                                 f" {LEAST_GUARD} and usually 10000")
             self._job(name).try_log()  # a job whose log cannot be opened is not stored
             try:
-                await self.store.create(name, text, kept)
+                rights = Rights(self.settings.system.secret(SECRET))
+                await self.store.create(name, text, kept, rights.text(None))
                 self.record.add("create", name, policy=members)
                 await self.followed(name)
                 return True
@@ -333,7 +336,7 @@ class Plane:
                 {field: getattr(row, field) for field, _ in row._fields_} for row in job.rows()
             ],
             "alive": followed.alive(now), "draining": followed.draining(),
-            "since_commit": round(now - job.last_commit, 3),
+            "since_commit": round(now - job.last_commit, 3), "admitted": job.admitted(),
         }
 
     def shown(self) -> list[Shown]:
@@ -468,6 +471,10 @@ class Plane:
                 return failure(404, f"there is no job {error}: PUT /jobs/{error} with its policy creates it")
             case Conflict() | LivesSpent():
                 return failure(409, str(error))
+            case NotAdmitted():
+                return not_admitted(error)
+            case WrongKey():
+                return failure(403, str(error), refused="key")
             case Limited():
                 self.metrics.limited.labels(error.limit).inc()
                 made = failure(429, str(error), error.after, limit=error.limit)
@@ -571,6 +578,8 @@ class Plane:
         followed, given = await self.followed(job_in(request)), await json_of(request)
         task = member(given, "task", TASKS)
         note(task=task)
+        life = member(given, "life", LIVES) if "life" in given else 0
+        followed.job.rights.check(task, life, word_in(given, "key"))
         try:
             denials = Denials.read(given)
             followed.loads.report(task, given.get("loads"), self._now())
@@ -592,14 +601,15 @@ class Plane:
         text = request.match_info["task"]
         if not (text.isascii() and text.isdigit() and len(text) <= 2 and int(text) in TASKS):
             raise Malformed("a task is 1 to 64")
-        life = await followed.job.raise_life(int(text))
+        life, key = await followed.job.raise_life(int(text))
         self.record.add("begin", followed.job.name, task=int(text), life=life)
-        return answer_of({"life": life, "last": life - 1})
+        made: dict[str, Any] = {"life": life, "last": life - 1}
+        return answer_of({**made, "key": key} if key else made)
 
     async def _post_grant(self, request: web.Request) -> web.Response:
-        name, (task, life) = job_in(request), asker_in(await json_of(request))
-        note(task=task)
-        made = await self._in_time(await self.begin_grant(name, task, life))
+        name, asked = job_in(request), asked_in(await json_of(request))
+        note(task=asked.task)
+        made = await self._in_time(await self.begin_grant(name, asked))
         return told(made, message_of)
 
     async def _post_grants(self, request: web.Request) -> web.Response:
@@ -619,7 +629,7 @@ class Plane:
         try:
             if not isinstance(asked, dict):
                 raise Malformed("a grant is no object")
-            return await self.begin_grant(name_in(asked.get("job")), *asker_in(asked))
+            return await self.begin_grant(name_in(asked.get("job")), asked_in(asked))
         except Exception as error:  # of this one alone
             return error
 
@@ -645,7 +655,7 @@ class Plane:
 
     async def _post_free(self, request: web.Request) -> web.Response:
         job = (await self.followed(job_in(request))).job
-        made = await self.call(job, Free(await request.read()))
+        made = await self.call(job, Free(await request.read(), request.headers.get(KEY, "")))
         return told(made, lambda freed: answer_of({"freed": freed}))
 
     async def _post_take(self, request: web.Request) -> web.Response:

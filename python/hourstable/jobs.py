@@ -15,7 +15,8 @@ import json
 import logging
 import os
 from collections import OrderedDict, deque
-from collections.abc import Awaitable, Callable, Sequence
+from collections.abc import Awaitable, Callable, Collection, Mapping, Sequence
+from contextlib import suppress
 from dataclasses import dataclass, field
 from functools import partial
 from pathlib import Path
@@ -25,10 +26,11 @@ from hourstable import library, logs
 from hourstable.clock import JobClock
 from hourstable.kept_log import KeptLog
 from hourstable.library import Policy, Refused, Table
+from hourstable.rights import SECRET, NotAdmitted, Rights, WrongKey
 from hourstable.standstill import Standstill
-from hourstable.store import Conflict, Damaged, Life, NoSuchJob, Store, Stored, StoreFailed
+from hourstable.store import Conflict, Damaged, Holding, Life, NoSuchJob, Store, Stored, StoreFailed
 from hourstable.system import SYSTEM, System, make_folder
-from hourstable.table_calls import Call, Malformed, numbers_of, term_in, value_in
+from hourstable.table_calls import Call, Grant, Malformed, numbers_of, term_in, value_in
 from hourstable.tickets import Tickets, process_of
 
 log = logging.getLogger("hourstable.jobs")
@@ -67,12 +69,21 @@ def is_number(value: object) -> bool:
     return isinstance(value, int) and not isinstance(value, bool) and 0 <= value < 1 << 64
 
 
-LAST = b'"last":"'  # in kept values, which have it after their assignments
+LAST, DEADLINE = b'"last":"', b'"deadline":"'  # in kept values, which have no such names in their assignments
 
 
 def last_in(kept: bytes) -> int:
     """Returns the last reading of kept values."""
-    at = kept.rindex(LAST) + len(LAST)
+    return _number_after(LAST, kept)
+
+
+def deadline_in(kept: bytes) -> int:
+    """Returns the greatest deadline of kept values."""
+    return _number_after(DEADLINE, kept)
+
+
+def _number_after(name: bytes, kept: bytes) -> int:
+    at = kept.rindex(name) + len(name)
     return int(kept[at:kept.index(b'"', at)])
 
 
@@ -118,6 +129,22 @@ class Held:
     accepted: int  # the last reading that the table accepted
     at: int  # the reading of the last call
     line: str | None  # of the last call, if there was one
+    holder: str  # the incarnation in the row
+    rights: Rights
+    unknown: dict[int, int]  # tasks, and the readings until which leases may last whose rows the table has not
+
+    def ends_of(self, task: int, at: int) -> int:
+        """Returns the reading at which no lease of a task lasts any more."""
+        unknown = self.unknown.get(task, 0)
+        if at < unknown:
+            return max(unknown, self.rights.seat(task).deadline)
+        return max((row.table_ends for row in self.table.rows() if row.task == task), default=0)
+
+    def take_grants(self, tasks: Collection[int]) -> None:
+        """Takes into the rights until when the table granted leases to tasks."""
+        for row in self.table.rows() if tasks else ():
+            if row.task in tasks:
+                self.rights.reach(row.task, row.table_ends)
 
 
 class Made(NamedTuple, Generic[T]):
@@ -167,6 +194,10 @@ class Settings:
     local: Callable[[], int] = field(default=SYSTEM.ticks)
     system: System = SYSTEM
     keep_logs: int | None = None  # days for which files of logs are kept; None for ever
+    incarnation: str = ""  # of the plane, which no other start of one has; drawn if it is not given
+
+    def __post_init__(self) -> None:
+        self.incarnation = self.incarnation or f"{self.system.random().getrandbits(64):016x}"
 
 
 class Counters:
@@ -208,12 +239,13 @@ class Job:
         self._seen = Standstill(self._now, settings.standby / 4)
         self._wakes: set[asyncio.Future[None]] = set()  # those who wait for another view
         self._rows: list[library.Row] = []
+        self._rights = Rights(b"")  # as it was read last
         self._owners: tuple[bytes | None, set[int]] = None, set()  # those of an assignment
         self.policy: Policy | None = None
         self.members: dict[str, Any] = {}
         self.view = View(0, 0, None)
         self.term: dict[str, int] | None = None
-        self.lives: dict[int, Life] = {}  # as they were read last
+        self.lives: dict[int, Life] = {}  # the greatest that were read
         self.since = self.last_commit = self.held_since = self._now()
         self.grace = 0  # the reading until which no commit is accepted
         self.notes: OrderedDict[str, int] = OrderedDict()  # the answers to them
@@ -300,7 +332,7 @@ class Job:
 
     async def refresh(self) -> None:
         """Looks whether another plane has written, and reads the lives of tasks. Calls do not wait for it."""
-        self.lives = await self.ask("lives", self._store.lives, self.name)
+        await self.read_lives()
         if not await self._is_changed():
             return
         async with self._lock:
@@ -324,15 +356,36 @@ class Job:
         self._seen.saw(version, self._now() - begun)
         return False
 
-    async def raise_life(self, task: int) -> int:
-        """Returns a new life of a task, which no other call returns."""
+    async def read_lives(self) -> None:
+        """Reads the lives of tasks. Raises NoSuchJob."""
+        self.know(await self.ask("lives", self._store.lives, self.name))
+
+    def know(self, lives: Mapping[int, Life]) -> None:
+        """Takes lives that the store told. They only rise, so an answer that is older than another one counts for
+        nothing."""
+        for task, told in lives.items():
+            life = self.lives.get(task, Life(0, 0))
+            self.lives[task] = Life(max(life.life, told.life), max(life.drained, told.drained))
+
+    async def raise_life(self, task: int) -> tuple[int, str]:
+        """Returns a new life of a task, which no other call returns, and its key; none if a version up to 1.0 wrote
+        the row, and another plane holds the job."""
+        if not self.rights.secret:
+            with suppress(Replaced):
+                async with self._lock:
+                    await self._hold()
         life = await self.ask("life", self._store.raise_life, self.name, task)
-        self.lives[task] = Life(life, self.lives.get(task, Life(0, 0)).drained)
-        return life
+        self.know({task: Life(life, 0)})
+        return life, self.rights.key(task, life) if self.rights.secret else ""
+
+    @property
+    def rights(self) -> Rights:
+        """Who may act, as this plane knows it."""
+        return self._held.rights if self._held is not None else self._rights
 
     async def drain(self, task: int) -> None:
         """Drains the current life of a task."""
-        self.lives[task] = await self.ask("life", self._store.drain, self.name, task)
+        self.know({task: await self.ask("life", self._store.drain, self.name, task)})
 
     # Showing ---------------------------------------------------------------------------------
 
@@ -341,6 +394,7 @@ class Job:
         with self._restored(stored) as table:
             self._show_table(table)
         self.term = term_in(stored.kept)
+        self._rights = Rights.read(self.name, stored.rights) if stored.rights else Rights(b"")
 
     def _restored(self, stored: Stored) -> Table:
         """Returns the table of what is stored, as a restart leaves it."""
@@ -435,17 +489,34 @@ class Job:
         """Restores the table, and writes to the store that this plane holds it. The table of a job
         that was never called is not restored, but new."""
         row = Row.read(stored.line) if stored.line is not None else None
+        rights = await self._rights_of(stored, row)
         last = last_in(stored.kept)
         clock = JobClock(last, row.ahead if row else 0, self.settings.local)
-        version, line = stored.version, None
+        version, holder, line = stored.version, stored.holder, None
         if row is not None:
             await clock.wait()
-            version, line = await self._write_restore(stored, row)
+            version, line = await self._write_restore(stored, row, rights)
+            holder = self.settings.incarnation
+        elif rights.is_changed:  # the keys of lives follow from it
+            version = await self._write((version, holder), stored.kept, None, rights)
+            holder = self.settings.incarnation
         self._seen.forget()
+        unknown = {task: seat.deadline for task, seat in rights.seats.items()}
         table = self._restored(stored)
-        return Held(table, clock, version, stored.kept, last, last, last, line)
+        return Held(table, clock, version, stored.kept, last, last, last, line, holder, rights, unknown)
 
-    async def _write_restore(self, stored: Stored, row: Row) -> tuple[int, str]:
+    async def _rights_of(self, stored: Stored, row: Row | None) -> Rights:
+        """Returns who may act. If a version up to 1.0 wrote the row last, the lives that were given out count."""
+        ticket = row.ticket() if row is not None else None
+        rights = Rights.read(self.name, stored.rights) if stored.rights else Rights(b"")
+        if not rights.secret:
+            rights.secret = self.settings.system.secret(SECRET)
+        if not stored.rights or rights.ticket != ticket:
+            await self.read_lives()
+            rights.after_older(self.lives, deadline_in(stored.kept))
+        return rights
+
+    async def _write_restore(self, stored: Stored, row: Row, rights: Rights) -> tuple[int, str]:
         """Logs the last calls that are stored, if that was not done, and stores and logs that the
         table is restored. Returns the new version and the line."""
         assert self._log is not None
@@ -459,12 +530,21 @@ class Job:
             self.tickets.draw(), "restore", f"restored generation {generation} grace {deadline}",
             last=last, granted=granted, deadline=deadline,
         )
-        given = self.name, stored.version, stored.kept, Row(row.ahead, [*self._log.gap(), line]).text()
-        version = await self.ask("swap", self._store.swap, *given)
+        written = Row(row.ahead, [*self._log.gap(), line])
+        version = await self._write((stored.version, stored.holder), stored.kept, written, rights)
         self._log.append(line)
         self.grace = deadline
         self._counters.restored(self.name)
         return version, line
+
+    async def _write(self, before: tuple[int, str], kept: bytes, row: Row | None, rights: Rights) -> int:
+        """Writes the row in place of that of a version and a holder, and returns the new version."""
+        version, holder = before
+        holding = Holding(holder, self.settings.incarnation, rights.text(row.ticket() if row else None))
+        given = self.name, version, kept, row.text() if row else None, holding
+        written = await self.ask("swap", self._store.swap, *given)
+        rights.is_changed = False
+        return written
 
     # Calls of the table ----------------------------------------------------------------------
 
@@ -529,10 +609,14 @@ class Job:
         try:
             await self._log_again()
             held = await self._hold()
+            await self._meet_lives(together)
             at = await held.clock.wait()
-            played = self._play(held, together, at)
+            played, denied = self._play(held, together, at)
             if played:
                 await self._keep(held, played, at)
+            for one, why in denied:  # as of what is stored now
+                self._counters.made(self.name, one.call.do, why.word)
+                one.fail(why)
             return
         except Conflict:
             self._counters.replaced(self.name)
@@ -568,30 +652,56 @@ class Job:
         self._waiting.clear()
         return waiting
 
-    def _play(self, held: Held, together: list[Waiting], at: int) -> list[Played]:
-        """Plays calls on the table, and returns those that are to be stored. Those that repeat an
-        earlier call, or that the library cannot read, are answered."""
-        played = []
+    async def _meet_lives(self, together: Sequence[Waiting]) -> None:
+        """Reads the lives of tasks if one asks for a lease that this plane has not heard of."""
+        asked = [one.call for one in together if isinstance(one.call, Grant)]
+        if any(call.life > self.lives.get(call.task, Life(0, 0)).life for call in asked):
+            await self.read_lives()
+
+    def _play(
+        self, held: Held, together: list[Waiting], at: int
+    ) -> tuple[list[Played], list[tuple[Waiting, NotAdmitted]]]:
+        """Plays calls on the table. Returns those that are to be stored, and those of lives that get no lease.
+        Those that repeat an earlier call, or that the library cannot read, are answered."""
+        played, denied, granted = [], [], set()
         for one in together:
             call = one.call
             repeated = call.repeated(self)
             if repeated is not None:
                 one.tell(Made(repeated, None, None))
                 continue
-            ticket = self.tickets.draw()  # after the reading: a plane may be stopped in between
             try:
-                result = call.play(held.table, at)
-                made, reply = Made(result, None, at), call.tell(result)
-                held.accepted = at
-            except Refused as refusal:
-                if refusal.code < 0:
-                    one.fail(Malformed(str(refusal)))
-                    continue
-                made = Made(None, refusal, at)
-                reply = logs.told_refusal(call.do, str(refusal))
-            line = logs.line_of(ticket, call.do, reply, **call.members, at=at)
-            played.append(Played(one, made, line))
-        return played
+                call.admit(self, held, at)
+            except NotAdmitted as why:
+                denied.append((one, why))
+                continue
+            except (Malformed, WrongKey) as error:
+                one.fail(error)
+                continue
+            made = self._play_one(held, one, at)
+            if made is not None:
+                played.append(made)
+                if isinstance(call, Grant) and made.made.refusal is None:
+                    held.rights.admit(call.asked)
+                    granted.add(call.task)
+        held.take_grants(granted)
+        return played, denied
+
+    def _play_one(self, held: Held, one: Waiting, at: int) -> Played | None:
+        """Plays a call on the table. One that the library cannot read is answered."""
+        call = one.call
+        ticket = self.tickets.draw()  # after the reading: a plane may be stopped in between
+        try:
+            result = call.play(held.table, at)
+            made, reply = Made(result, None, at), call.tell(result)
+            held.accepted = at
+        except Refused as refusal:
+            if refusal.code < 0:
+                one.fail(Malformed(str(refusal)))
+                return None
+            made = Made(None, refusal, at)
+            reply = logs.told_refusal(call.do, str(refusal))
+        return Played(one, made, logs.line_of(ticket, call.do, reply, **call.members, at=at))
 
     async def _keep(self, held: Held, played: list[Played], at: int) -> None:
         """Stores calls that were played, logs them, and answers them."""
@@ -599,6 +709,8 @@ class Job:
         lines = [one.line for one in played]
         is_done = any(one.made.refusal is None for one in played)
         kept = self._to_store(held, at, is_done)
+        if kept is None and held.rights.is_changed:
+            kept = held.table.save(b"", *self._ahead()) or held.table.kept()
         if kept is not None:
             await self._swap(held, kept, at, lines)
         is_used = at <= held.last  # else all were refused, and the reading is not stored
@@ -630,25 +742,28 @@ class Job:
         assert self._log is not None
         if self.settings.shared and is_done:
             return held.table.kept()
-        grants, ticks = self.settings.grants_ahead, self.settings.ticks_ahead
-        if self.settings.shared:
-            grants = ticks = 0
+        grants, ticks = self._ahead()
         is_covered = at <= held.last and not (self.settings.shared or self._log.is_stopped)
         if not is_covered and not is_done:
             grants, ticks = max(grants, 1), max(ticks, at - held.accepted)
         kept = held.table.save(held.saved if is_covered else b"", grants, ticks)
         return None if kept is None or not (is_done or last_in(kept) >= at) else kept
 
+    def _ahead(self) -> tuple[int, int]:
+        """Returns by how many grants and ticks what is stored is ahead of the table."""
+        return (0, 0) if self.settings.shared else (self.settings.grants_ahead, self.settings.ticks_ahead)
+
     async def _swap(self, held: Held, kept: bytes, at: int, lines: Sequence[str]) -> None:
         """Stores kept values with the lines of the last calls, which were made at a reading, after the line of what
         the log lacks before them."""
         assert self._log is not None
         last = last_in(kept)
-        text = Row(max(0, last - at), [*self._log.gap(), *lines]).text()
-        held.version = await self.ask(
-            "swap", self._store.swap, self.name, held.version, kept, text
-        )
-        held.saved, held.last = kept, last
+        if not self.settings.shared:  # tasks that have leases may renew them before the next write
+            for task in {row.task for row in held.table.rows()}:
+                held.rights.reach(task, deadline_in(kept))
+        row = Row(max(0, last - at), [*self._log.gap(), *lines])
+        held.version = await self._write((held.version, held.holder), kept, row, held.rights)
+        held.saved, held.last, held.holder = kept, last, self.settings.incarnation
 
     async def settle(self) -> None:
         """Stores just what is kept, if more was saved ahead: the next process then waits for no
@@ -680,6 +795,10 @@ class Job:
             return 0
         at = self.reading()
         return self.grace if at is None else max(0, self.grace - at)
+
+    def admitted(self) -> dict[str, int]:
+        """Returns the life of each task that is let in, as this plane knows it."""
+        return {str(task): seat.life for task, seat in sorted(self.rights.seats.items()) if seat.life}
 
     def kept(self) -> dict[str, Any]:
         """Returns the value of what is stored of a table that this plane holds."""

@@ -15,6 +15,7 @@ import ctypes
 import os
 import time
 from collections.abc import Callable, Iterable, Mapping
+from functools import cache
 from pathlib import Path
 from typing import Any, NamedTuple, NoReturn, TypeVar
 
@@ -91,9 +92,10 @@ def fitting(c_type: CType, value: Any) -> int:
 
 def whole(c_type: CType) -> CType:
     """Returns a parameter type that accepts only numbers that fit the C type."""
+    limit = 1 << 8 * ctypes.sizeof(c_type)
 
     def from_param(value: Any) -> CType:
-        return c_type(fitting(c_type, value))
+        return c_type(value if type(value) is int and 0 <= value < limit else fitting(c_type, value))
 
     return type("Whole", (), {"from_param": staticmethod(from_param)})
 
@@ -104,11 +106,17 @@ def array_of(c_type: CType, values: Iterable[int]) -> CType:
     return (c_type * len(values))(*values)
 
 
+@cache
+def types_of(kind: type[ctypes.Structure]) -> dict[str, CType]:
+    """Returns the C types of the fields of a struct by their names."""
+    return {field[0]: field[1] for field in kind._fields_}
+
+
 class Numbers(ctypes.Structure):
     """A struct of numbers. Each value must fit its field."""
 
     def __setattr__(self, name: str, value: Any) -> None:
-        c_type = dict[str, CType](self._fields_).get(name)
+        c_type = types_of(type(self)).get(name)
         if c_type is None:
             raise AttributeError(f"{type(self).__name__} has no field {name}")
         super().__setattr__(name, fitting(c_type, value))
@@ -555,7 +563,7 @@ def text_of(call: Callable[..., int], *given: CType) -> bytes:
         room = ctypes.create_string_buffer(needed.value)
         code = call(*given, room, len(room), ctypes.byref(needed))
     done(code)
-    return room.raw[: needed.value]
+    return ctypes.string_at(room, needed.value)
 
 
 def list_of(c_type: CType, call: Callable[..., int], *given: CType) -> list[Any]:

@@ -18,7 +18,7 @@ import os
 import re
 import time
 from collections.abc import Callable, Iterator, Mapping, Sequence
-from functools import partial
+from functools import lru_cache, partial
 from pathlib import Path
 from typing import Any, NamedTuple
 
@@ -29,6 +29,7 @@ ASSIGNERS, TASKS = 8, 64  # the most that a job may have
 CLERKS = 128  # as many as have a ticket process of their own
 ENDING = ".jsonl"
 GAP = b'{"gap":'  # the beginning of a line that is no call
+A_DAY = 86_400_000_000_000  # nanoseconds
 PIECE = 1 << 20  # bytes of a file that are looked through at a time
 COMPACT = json.JSONEncoder(separators=(",", ":"))
 NAME = re.compile(r"[A-Za-z0-9_-][A-Za-z0-9._-]{0,63}")
@@ -89,7 +90,13 @@ def folder_of(top: str | os.PathLike[str], job: str) -> Path:
 
 def utc_day(system: System = SYSTEM) -> str:
     """Returns the day as YYYY-MM-DD."""
-    return time.strftime("%Y-%m-%d", time.gmtime(system.real_nanoseconds() // 1_000_000_000))
+    return _day_at(system.real_nanoseconds() // A_DAY)
+
+
+@lru_cache(16)
+def _day_at(days: int) -> str:
+    """Returns the day that is so many days after 1970-01-01."""
+    return time.strftime("%Y-%m-%d", time.gmtime(days * 86_400))
 
 
 def days_before(day: str, days: int) -> str:

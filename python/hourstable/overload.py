@@ -15,13 +15,23 @@ class Overload:
     def __init__(self, now: Callable[[], float]) -> None:
         self._now = now
         self._late: deque[float] = deque([0.0] * SAMPLES, maxlen=SAMPLES)
+        self._timer: asyncio.TimerHandle | None = None
 
     async def watch(self) -> None:
         """Measures until it is cancelled."""
-        while True:
-            due = self._now() + EVERY
-            await asyncio.sleep(EVERY)
-            self.note(self._now() - due)
+        loop = asyncio.get_running_loop()
+        try:
+            self._wait(loop)
+            await loop.create_future()  # a timer calls for less than a coroutine that sleeps
+        finally:
+            if self._timer is not None:
+                self._timer.cancel()
+
+    def _wait(self, loop: asyncio.AbstractEventLoop, due: float | None = None) -> None:
+        now = self._now()
+        if due is not None:
+            self.note(now - due)
+        self._timer = loop.call_later(EVERY, self._wait, loop, now + EVERY)
 
     def note(self, late: float) -> None:
         """Takes by how many seconds a timer came late."""

@@ -26,6 +26,8 @@ def union(some: Ranges, others: Ranges) -> Ranges:
 
 def minus(some: Ranges, others: Ranges) -> Ranges:
     """Returns the keys of a set that are not in the other one."""
+    if not others:
+        return list(some)
     made: Ranges = []
     for start, end in some:
         for low, high in others:

@@ -1,8 +1,9 @@
 """Stores of the kept values of jobs: SQLite in a file, PostgreSQL, and etcd by its JSON gateway.
 
 A store has one row a job: the policy, the kept values of the table, the line of the log of the call
-that made them, and the lives of the tasks. A row is changed only by compare-and-set, so of two
-writers that read the same version one writes, and the other meets Conflict.
+that made them, who may act for the job, and the lives of the tasks. A row is changed only by
+compare-and-set, so of two writers that read the same version one writes, and the other meets
+Conflict.
 
 A store is used in one event loop, by any number of calls at once. A call is durable when it
 returns. Each returns or raises within the deadline of the store, whatever its engine does: a server
@@ -48,12 +49,25 @@ class LivesSpent(Exception):
 
 
 class Stored(NamedTuple):
-    """What a store has of a table. Versions rise with each write."""
+    """What a store has of a table. Versions rise with each write. `holder` is the incarnation of the plane that wrote
+    last, and `rights` what it says of who may act (`hourstable.rights`); both are empty in rows of versions up to
+    1.0, which leave them as they are."""
 
     version: int
     policy: str
     kept: bytes
     line: str | None
+    holder: str = ""
+    rights: str = ""
+
+
+class Holding(NamedTuple):
+    """What is written of who may act for a job: the incarnation of the plane that writes, and the text. `before` is
+    the incarnation that the row is to have: a store that went back may reach a version again."""
+
+    before: str
+    holder: str
+    rights: str
 
 
 class Life(NamedTuple):
@@ -88,7 +102,7 @@ class Store(ABC):
         """Returns the names of all jobs, sorted."""
 
     @abstractmethod
-    async def create(self, job: str, policy: str, kept: bytes) -> int:
+    async def create(self, job: str, policy: str, kept: bytes, rights: str = "") -> int:
         """Writes the row of a new job, and returns its version. Raises Conflict if it has one."""
 
     @abstractmethod
@@ -100,9 +114,12 @@ class Store(ABC):
         """Returns the version that load would return."""
 
     @abstractmethod
-    async def swap(self, job: str, version: int, kept: bytes, line: str | None) -> int:
-        """Writes the kept values and the line over those of a version, and returns the new version.
-        Raises Conflict if the row is of another version."""
+    async def swap(
+        self, job: str, version: int, kept: bytes, line: str | None, holding: Holding | None = None
+    ) -> int:
+        """Writes the kept values and the line over those of a version, and who may act unless that
+        is None, and returns the new version. Raises Conflict if the row is of another version, or of
+        another holder."""
 
     @abstractmethod
     async def read_lives(self, job: str) -> tuple[str, Any]:

@@ -10,21 +10,21 @@ from typing import Any
 
 import aiohttp
 
-from hourstable.store import DEADLINE, Conflict, Damaged, NoSuchJob, Store, Stored, StoreFailed
+from hourstable.store import DEADLINE, Conflict, Damaged, Holding, NoSuchJob, Store, Stored, StoreFailed
 from hourstable.store_rows import Rows
 from hourstable.system import SYSTEM, System
 from hourstable.waiting import within
 
 
 class EtcdStore(Store):
-    """A store in three keys a job of etcd: /hourstable/policy/JOB, /hourstable/table/JOB and
-    /hourstable/lives/JOB. A version is the revision at which the second was written.
+    """A store in some keys a job of etcd: /hourstable/policy/JOB, /hourstable/table/JOB, and others
+    beside it. A version is the revision at which the second was written.
 
     It asks one of the members, and another one after that one failed or was late."""
 
     name = "etcd"
     POLICY, TABLE, LIVES = "/hourstable/policy/", "/hourstable/table/", "/hourstable/lives/"
-    ASSIGNMENTS = "/hourstable/assignments/"
+    ASSIGNMENTS, HOLDER, RIGHTS = "/hourstable/assignments/", "/hourstable/holder/", "/hourstable/rights/"
 
     def __init__(
         self, members: Sequence[tuple[str, int]], tls: ssl.SSLContext | None = None,
@@ -75,14 +75,16 @@ class EtcdStore(Store):
         except (StoreFailed, TimeoutError):
             return await self._ask(call, body)
 
-    async def _write(self, written: dict[str, str], compared: str, revision: int) -> int | None:
-        """Writes keys if the compared one was written at this revision, 0 for never. Returns the
-        revision of the write, None if it was not done."""
+    async def _write(
+        self, written: dict[str, str], compared: str, revision: int, also: Sequence[dict[str, object]] = ()
+    ) -> int | None:
+        """Writes keys if the compared one was written at this revision, 0 for never, and what is
+        compared besides holds. Returns the revision of the write, None if it was not done."""
         told = await self.in_time(self._ask("txn", {
             "compare": [{
                 "target": "MOD", "result": "EQUAL",
                 "key": _base64(compared), "mod_revision": revision,
-            }],
+            }, *also],
             "success": [
                 {"request_put": {"key": _base64(key), "value": _base64(value)}}
                 for key, value in written.items()
@@ -96,11 +98,12 @@ class EtcdStore(Store):
         found = (await self._read("range", body)).get("kvs", [])
         return sorted(_text(one["key"]).removeprefix(self.TABLE) for one in found)
 
-    async def create(self, job: str, policy: str, kept: bytes) -> int:
+    async def create(self, job: str, policy: str, kept: bytes, rights: str = "") -> int:
         row = {
             self.POLICY + job: policy,
             self.TABLE + job: json.dumps({"kept": kept.decode(), "line": None}),
             self.LIVES + job: "{}",
+            self.RIGHTS + job: rights,
         }
         version = await self._write(row, self.TABLE + job, 0)
         if version is None:
@@ -108,7 +111,7 @@ class EtcdStore(Store):
         return version
 
     async def load(self, job: str) -> Stored | None:
-        keys = [self.TABLE + job, self.POLICY + job, self.ASSIGNMENTS + job]
+        keys = [it + job for it in (self.TABLE, self.POLICY, self.ASSIGNMENTS, self.HOLDER, self.RIGHTS)]
         told = await self._read("txn", {
             "success": [{"request_range": {"key": _base64(key)}} for key in keys]
         })
@@ -118,25 +121,34 @@ class EtcdStore(Store):
         if not found[1]:
             raise Damaged(f"etcd: {job} has no key {self.POLICY}{job}")
         (table,), (policy,) = found[:2]
-        version, assignments = int(table["mod_revision"]), _text(found[2][0]["value"]) if found[2] else None
+        version = int(table["mod_revision"])
+        assignments, holder, rights = (_text(one[0].get("value", "")) if one else None for one in found[2:])
         try:
             row = json.loads(_text(table["value"]))
             kept, line = self._rows.whole(job, version, row["kept"], assignments), row["line"]
         except (ValueError, KeyError, TypeError, AttributeError) as error:
             raise Damaged(f"etcd: the value of {self.TABLE}{job} cannot be read: {error!r}") from error
-        return Stored(version, _text(policy["value"]), kept, line)
+        return Stored(version, _text(policy["value"]), kept, line, holder or "", rights or "")
 
     async def version(self, job: str) -> int | None:
         body = {"key": _base64(self.TABLE + job), "keys_only": True}
         found = (await self._read("range", body)).get("kvs")
         return int(found[0]["mod_revision"]) if found else None
 
-    async def swap(self, job: str, version: int, kept: bytes, line: str | None) -> int:
+    async def swap(
+        self, job: str, version: int, kept: bytes, line: str | None, holding: Holding | None = None
+    ) -> int:
         parts = self._rows.parts(job, kept)
         row = {self.TABLE + job: json.dumps({"kept": parts.rest, "line": line})}
         if not self._rows.has(job, version, parts):
             row[self.ASSIGNMENTS + job] = parts.assignments
-        written = await self._write(row, self.TABLE + job, version)
+        compared = list[dict[str, object]]()
+        if holding is not None:
+            row[self.RIGHTS + job] = holding.rights
+            compared = [_is_text(self.HOLDER + job, holding.before)]
+            if holding.holder != holding.before:
+                row[self.HOLDER + job] = holding.holder
+        written = await self._write(row, self.TABLE + job, version, compared)
         if written is None:
             raise Conflict(f"{job} is not of version {version}")
         self._rows.wrote(job, written, parts)
@@ -161,6 +173,13 @@ class EtcdStore(Store):
 
 def _host(name: str) -> str:
     return f"[{name}]" if ":" in name else name
+
+
+def _is_text(key: str, text: str) -> dict[str, object]:
+    """Returns what compares the value of a key, which is not there if the text is empty."""
+    if not text:
+        return {"target": "CREATE", "result": "EQUAL", "key": _base64(key), "create_revision": 0}
+    return {"target": "VALUE", "result": "EQUAL", "key": _base64(key), "value": _base64(text)}
 
 
 def _base64(text: str) -> str:

@@ -11,13 +11,14 @@ from psycopg.abc import RV, PQGen
 from psycopg_pool import AsyncConnectionPool, PoolClosed, PoolTimeout
 
 from hourstable.store import (
-    DEADLINE, Conflict, Store, Stored, StoreFailed, after_swap, lives_in, password_in, without,
+    DEADLINE, Conflict, Holding, Store, Stored, StoreFailed, after_swap, lives_in, password_in, without,
 )
 from hourstable.store_rows import Rows as RowsOfJobs
 from hourstable.store_rows import stored_in
 from hourstable.system import SYSTEM, System
 
 CONNECTIONS = 32  # of a store at most
+ADDED = "assignments", "holder", "rights"  # columns that tables of older versions lack
 Rows = tuple[list[Any], int]  # that were read, and the count of those that were written
 
 
@@ -144,16 +145,14 @@ class PostgresqlStore(Store):
                 await connection.execute(
                     "CREATE TABLE IF NOT EXISTS hourstable_jobs (job text PRIMARY KEY,"
                     " version bigint NOT NULL, policy text NOT NULL, kept text NOT NULL,"
-                    " line text, lives text NOT NULL, assignments text)"
+                    " line text, lives text NOT NULL, assignments text, holder text, rights text)"
                 )
                 found = await connection.execute(
-                    "SELECT 1 FROM information_schema.columns"
-                    " WHERE table_name = 'hourstable_jobs' AND column_name = 'assignments'"
+                    "SELECT column_name FROM information_schema.columns WHERE table_name = 'hourstable_jobs'"
                 )
-                if await found.fetchone() is None:  # a version up to 1.0 made it; this waits for all who use it
-                    await connection.execute(
-                        "ALTER TABLE hourstable_jobs ADD COLUMN IF NOT EXISTS assignments text"
-                    )
+                there = {name for name, in await found.fetchall()}
+                for name in [it for it in ADDED if it not in there]:  # this waits for all who use the table
+                    await connection.execute(f"ALTER TABLE hourstable_jobs ADD COLUMN IF NOT EXISTS {name} text")
         except psycopg.Error as error:
             raise self._failed(error) from None
 
@@ -215,26 +214,38 @@ class PostgresqlStore(Store):
         rows = await self._read('SELECT job FROM hourstable_jobs ORDER BY job COLLATE "C"')
         return [job for job, in rows]
 
-    async def create(self, job: str, policy: str, kept: bytes) -> int:
-        insert = "INSERT INTO hourstable_jobs VALUES (%s, 1, %s, %s, NULL, '{}', NULL)"
-        await self._run(insert, job, policy, kept.decode())
+    async def create(self, job: str, policy: str, kept: bytes, rights: str = "") -> int:
+        insert = (
+            "INSERT INTO hourstable_jobs (job, version, policy, kept, lives, rights) VALUES (%s, 1, %s, %s, '{}', %s)"
+        )
+        await self._run(insert, job, policy, kept.decode(), rights)
         return 1
 
     async def load(self, job: str) -> Stored | None:
-        select = "SELECT version, policy, kept, line, assignments FROM hourstable_jobs WHERE job = %s"
+        select = (
+            "SELECT version, policy, kept, line, assignments, holder, rights FROM hourstable_jobs WHERE job = %s"
+        )
         return stored_in(self._rows, job, await self._read(select, job))
 
     async def version(self, job: str) -> int | None:
         rows = await self._read("SELECT version FROM hourstable_jobs WHERE job = %s", job)
         return int(rows[0][0]) if rows else None
 
-    async def swap(self, job: str, version: int, kept: bytes, line: str | None) -> int:
+    async def swap(
+        self, job: str, version: int, kept: bytes, line: str | None, holding: Holding | None = None
+    ) -> int:
         parts = self._rows.parts(job, kept)
-        also, more = ("", ()) if self._rows.has(job, version, parts) else (", assignments = %s", (parts.assignments,))
-        _, count = await self._run(  # a long text that is not set is not written again
-            f"UPDATE hourstable_jobs SET version = version + 1, kept = %s, line = %s{also}"
-            " WHERE job = %s AND version = %s",
-            parts.rest, line, *more, job, version,
+        columns: dict[str, str | None] = {"kept": parts.rest, "line": line}
+        if not self._rows.has(job, version, parts):  # a long text that is not set is not written again
+            columns["assignments"] = parts.assignments
+        where, compared = "", list[str]()
+        if holding is not None:
+            columns |= {"holder": holding.holder, "rights": holding.rights}
+            where, compared = " AND COALESCE(holder, '') = %s", [holding.before]
+        also = "".join(f", {name} = %s" for name in columns)
+        _, count = await self._run(
+            f"UPDATE hourstable_jobs SET version = version + 1{also} WHERE job = %s AND version = %s{where}",
+            *columns.values(), job, version, *compared,
         )
         written = after_swap(job, version, count)
         self._rows.wrote(job, written, parts)

@@ -80,11 +80,12 @@ class Rows:
 
 
 def stored_in(rows: Rows, job: str, found: list[Any]) -> Stored | None:
-    """Returns what is stored, from the rows of version, policy, kept values, line and assignments. Raises Damaged."""
+    """Returns what is stored, from the rows of version, policy, kept values, line, assignments, holder and rights.
+    Raises Damaged."""
     if not found:
         return None
-    version, policy, rest, line, assignments = found[0]
-    return Stored(version, policy, rows.whole(job, version, rest, assignments), line)
+    version, policy, rest, line, assignments, holder, rights = found[0]
+    return Stored(version, policy, rows.whole(job, version, rest, assignments), line, holder or "", rights or "")
 
 
 def _places(text: str, known: list[str]) -> tuple[tuple[int, int], tuple[int, int]] | None:

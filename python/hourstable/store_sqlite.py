@@ -4,16 +4,19 @@ import asyncio
 import os
 import sqlite3
 from collections import deque
-from collections.abc import Callable
+from collections.abc import Callable, Sequence
 from concurrent.futures import ThreadPoolExecutor
 from contextlib import suppress
 from typing import Any, NamedTuple, TypeVar
 
-from hourstable.store import DEADLINE, Conflict, Store, Stored, StoreFailed, after_swap, lives_in
+from hourstable.store import DEADLINE, Conflict, Holding, Store, Stored, StoreFailed, after_swap, lives_in
 from hourstable.store_rows import Rows, stored_in
 from hourstable.system import SYSTEM, System
 
+RIGHTS = "REPLACE INTO rights VALUES (?, ?, ?)"
+HOLDER = "COALESCE((SELECT holder FROM rights WHERE rights.job = jobs.job), '')"
 T = TypeVar("T")
+Statement = tuple[str, tuple[object, ...]]
 
 
 class Write(NamedTuple):
@@ -22,7 +25,7 @@ class Write(NamedTuple):
     statement: str
     values: tuple[object, ...]
     answer: "asyncio.Future[int]"
-    then: tuple[str, tuple[object, ...]] | None = None  # a statement for the same transaction, if a row was written
+    then: Sequence[Statement] = ()  # statements for the same transaction, if a row was written
 
 
 class Connected:
@@ -91,9 +94,7 @@ class SqliteStore(Store):
             self.reads.run(lambda connection: connection.execute(statement, values).fetchall())
         )
 
-    async def _write(
-        self, statement: str, *values: object, then: tuple[str, tuple[object, ...]] | None = None
-    ) -> int:
+    async def _write(self, statement: str, *values: object, then: Sequence[Statement] = ()) -> int:
         """Returns how many rows were written. Raises Conflict at a row that is there already."""
         mine = Write(statement, values, asyncio.get_running_loop().create_future(), then)
         self._waiting.append(mine)
@@ -119,16 +120,17 @@ class SqliteStore(Store):
     async def jobs(self) -> list[str]:
         return [job for job, in await self._read("SELECT job FROM jobs ORDER BY job")]
 
-    async def create(self, job: str, policy: str, kept: bytes) -> int:
+    async def create(self, job: str, policy: str, kept: bytes, rights: str = "") -> int:
         await self._write(
-            "INSERT INTO jobs VALUES (?, 1, ?, ?, NULL, '{}')", job, policy, kept.decode()
+            "INSERT INTO jobs VALUES (?, 1, ?, ?, NULL, '{}')", job, policy, kept.decode(),
+            then=[(RIGHTS, (job, "", rights))],
         )
         return 1
 
     async def load(self, job: str) -> Stored | None:
         rows = await self._read(
-            "SELECT version, policy, kept, line, (SELECT parts FROM assignments WHERE assignments.job = jobs.job)"
-            " FROM jobs WHERE job = ?", job,
+            "SELECT version, policy, kept, line, parts, holder, rights FROM jobs"
+            " LEFT JOIN assignments USING (job) LEFT JOIN rights USING (job) WHERE job = ?", job,
         )
         return stored_in(self._rows, job, rows)
 
@@ -136,14 +138,20 @@ class SqliteStore(Store):
         rows = await self._read("SELECT version FROM jobs WHERE job = ?", job)
         return int(rows[0][0]) if rows else None
 
-    async def swap(self, job: str, version: int, kept: bytes, line: str | None) -> int:
+    async def swap(
+        self, job: str, version: int, kept: bytes, line: str | None, holding: Holding | None = None
+    ) -> int:
         parts = self._rows.parts(job, kept)
-        is_there = self._rows.has(job, version, parts)
+        also: list[Statement] = []
+        if not self._rows.has(job, version, parts):
+            also.append(("REPLACE INTO assignments VALUES (?, ?)", (job, parts.assignments)))
+        where, compared = "", list[object]()
+        if holding is not None:
+            where, compared = f" AND {HOLDER} = ?", [holding.before]
+            also.append((RIGHTS, (job, holding.holder, holding.rights)))
         count = await self._write(
-            "UPDATE jobs SET version = version + 1, kept = ?, line = ?"
-            " WHERE job = ? AND version = ?",
-            parts.rest, line, job, version,
-            then=None if is_there else ("REPLACE INTO assignments VALUES (?, ?)", (job, parts.assignments)),
+            f"UPDATE jobs SET version = version + 1, kept = ?, line = ? WHERE job = ? AND version = ?{where}",
+            parts.rest, line, job, version, *compared, then=also,
         )
         written = after_swap(job, version, count)
         self._rows.wrote(job, written, parts)
@@ -194,6 +202,9 @@ def _make_table(connection: sqlite3.Connection) -> None:
     connection.execute(
         "CREATE TABLE IF NOT EXISTS assignments (job TEXT PRIMARY KEY, parts TEXT NOT NULL) STRICT"
     )
+    connection.execute(
+        "CREATE TABLE IF NOT EXISTS rights (job TEXT PRIMARY KEY, holder TEXT NOT NULL, rights TEXT NOT NULL) STRICT"
+    )
 
 
 def _written(connection: sqlite3.Connection, writes: list[Write]) -> list[int | Exception]:
@@ -216,8 +227,8 @@ def _tried(connection: sqlite3.Connection, write: Write) -> int | Exception:
         return 0
     try:
         count = connection.execute(write.statement, write.values).rowcount
-        if count and write.then is not None:
-            connection.execute(*write.then)
+        for statement in write.then if count else ():
+            connection.execute(*statement)
         return count
     except sqlite3.IntegrityError as error:
         return Conflict(str(error))

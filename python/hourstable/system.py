@@ -89,6 +89,10 @@ class System:
         """Returns when the bytes of a mapped file are on the disk. Raises OSError."""
         memory.flush()
 
+    def secret(self, length: int) -> bytes:
+        """Returns bytes that nobody can guess."""
+        return os.urandom(length)
+
     def random(self) -> random.Random:
         """Returns a generator of random numbers with a seed of its own."""
         return random.Random()

@@ -6,9 +6,10 @@ from typing import TYPE_CHECKING, Any, Generic, TypeVar
 
 from hourstable import logs
 from hourstable.library import JobTerm, Table
+from hourstable.rights import ENDED, Asked
 
 if TYPE_CHECKING:
-    from hourstable.jobs import Job
+    from hourstable.jobs import Held, Job
 
 T = TypeVar("T")
 MOST_NOTES = 4096  # of which a job remembers the answers
@@ -39,6 +40,9 @@ class Call(ABC, Generic[T]):
         """Returns the result of an earlier call that this one repeats, None if it repeats none."""
         return None
 
+    def admit(self, job: "Job", held: "Held", at: int) -> None:
+        """Raises NotAdmitted or WrongKey if who asks may not act at a reading, and Malformed if the call is none."""
+
     def done(self, job: "Job", result: T) -> None:
         """Remembers the call, which is stored."""
 
@@ -48,9 +52,14 @@ class Grant(Call[bytes]):
 
     do = "grant"
 
-    def __init__(self, task: int, life: int) -> None:
-        self.task, self.life = task, life
-        self.members = {"task": task, "life": life}
+    def __init__(self, asked: Asked) -> None:
+        self.asked, self.task, self.life = asked, asked.task, asked.life
+        self.members = {"task": asked.task, "life": asked.life}
+
+    def admit(self, job: "Job", held: "Held", at: int) -> None:
+        if self.task not in job.lives or self.life > job.lives[self.task].life:
+            raise Malformed(f"task {self.task} has had no life {self.life}")
+        held.rights.judge(self.asked, at, held.ends_of(self.task, at))
 
     def play(self, table: Table, at: int) -> bytes:
         return table.grant(self.task, self.life, at)
@@ -60,14 +69,27 @@ class Grant(Call[bytes]):
 
 
 class Free(Call[int]):
-    """A task gives leases back by a note. Its result is how many rows were freed."""
+    """A task gives leases back by a note, with the key of its life. Its result is how many rows were freed."""
 
     do = "free"
 
-    def __init__(self, note: bytes) -> None:
-        self.note, value = note, value_in(note)
+    def __init__(self, note: bytes, life_key: str = "") -> None:
+        self.note, self.life_key, value = note, life_key, value_in(note)
         self.members = {"note": value}
         self.key: str = json.dumps(value, sort_keys=True)
+
+    def admit(self, job: "Job", held: "Held", at: int) -> None:
+        """Looks whether the note is of the task's own life, and one of an ended life not of that which is let in:
+        that may have leases."""
+        value = self.members["note"]
+        assert isinstance(value, dict)
+        try:
+            task, life, number = (int(value[name]) for name in ("task", "life", "number"))
+        except (KeyError, TypeError, ValueError):
+            return  # the library says what is wrong with it
+        held.rights.check(task, life, self.life_key)
+        if number >= ENDED and life >= held.rights.seat(task).life:
+            raise Malformed(f"life {life} of task {task} has not ended: no later one is let in")
 
     def play(self, table: Table, at: int) -> int:
         return table.free(self.note, at)

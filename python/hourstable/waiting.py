@@ -7,6 +7,7 @@ task and takes no cancellation back. Here the work has a task of its own, and ne
 
 import asyncio
 from collections.abc import Callable, Coroutine
+from functools import partial
 from typing import Any, TypeVar
 
 T = TypeVar("T")
@@ -17,7 +18,7 @@ async def within(seconds: float, work: Coroutine[Any, Any, T]) -> T:
     than these seconds."""
     child = asyncio.create_task(work)
     try:
-        await asyncio.wait({child}, timeout=seconds)
+        await _first_of(child, seconds=seconds)
         if child.done() and not child.cancelled():
             return child.result()
         raise TimeoutError
@@ -33,7 +34,7 @@ async def unless(ends: Coroutine[Any, Any, None], work: Coroutine[Any, Any, T]) 
     """Returns what a coroutine returns. Raises TimeoutError, and cancels it, if another one ends first."""
     child, end = asyncio.create_task(work), asyncio.create_task(ends)
     try:
-        await asyncio.wait({child, end}, return_when=asyncio.FIRST_COMPLETED)
+        await _first_of(child, end)
         if child.done() and not child.cancelled():
             return child.result()
         raise TimeoutError("another control plane is asked now")
@@ -41,6 +42,26 @@ async def unless(ends: Coroutine[Any, Any, None], work: Coroutine[Any, Any, T]) 
         for one in (child, end):
             one.cancel()
         await asyncio.gather(child, end, return_exceptions=True)
+
+
+async def _first_of(*tasks: "asyncio.Task[Any]", seconds: float | None = None) -> None:
+    """Returns once one of the tasks has ended, or after these seconds. `asyncio.wait` takes more than twice as
+    long."""
+    loop = asyncio.get_running_loop()
+    ended = loop.create_future()
+    timer = None if seconds is None else loop.call_later(seconds, _wake, ended)
+    for task in tasks:
+        task.add_done_callback(partial(_wake, ended))
+    try:
+        await ended
+    finally:
+        if timer is not None:
+            timer.cancel()
+
+
+def _wake(waiting: "asyncio.Future[None]", _: object = None) -> None:
+    if not waiting.done():
+        waiting.set_result(None)
 
 
 async def pause(seconds: float, event: asyncio.Event) -> None:

@@ -28,8 +28,9 @@ class File:
 class Disk:
     """The disk of a host."""
 
-    def __init__(self, folder: Path) -> None:
+    def __init__(self, folder: Path, may_lose: bool) -> None:
         self.folder = folder
+        self.may_lose = may_lose  # whether its host may lose its power
         self.full_below: str = ""  # a part of the paths of files that cannot be written
         self.has_lost = False  # whether a power loss took something
         self._files: dict[str, File] = {}
@@ -46,10 +47,12 @@ class Disk:
 
     def write(self, process: "Process", file: int, data: bytes) -> int:
         _, name = self._open[file]
-        if self._is_full(name) and os.fstat(file).st_size + len(data) > self._files[name].allocated:
+        known = self._files[name]
+        if self.full_below and self._is_full(name) and os.fstat(file).st_size + len(data) > known.allocated:
             raise OSError(errno.ENOSPC, "no space left on device", name)
         length = os.write(file, data)
-        self._files[name].grown.append((process.world.now, os.fstat(file).st_size))
+        if self.may_lose:
+            known.grown.append((process.world.now, os.fstat(file).st_size))
         return length
 
     def allocate(self, file: int, end: int) -> None:

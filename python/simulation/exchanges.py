@@ -34,19 +34,22 @@ class Exchange:
         self._go(self._there, self._arrive)
         try:
             if self._silence:
-                await self._wait_for_beats()
+                self._hear()
+                self._listen()
             return await self.answer
         finally:
             self._network.traffic.pop(self, None)
 
-    async def _wait_for_beats(self) -> None:
+    def _listen(self) -> None:
+        """Ends the exchange once beats are missing."""
+        if self.answer.done():
+            return
         loop = self.process.loop
-        self._heard = loop.time()
-        while not self.answer.done():
-            left = self._heard + self._silence - loop.time()
-            if left <= 0:
-                raise TimeoutError("beats are missing")
-            await asyncio.wait({self.answer}, timeout=left)
+        left = self._heard + self._silence - loop.time()
+        if left > 0:
+            loop.call_later(left, self._listen)
+        else:
+            self.answer.set_exception(TimeoutError("beats are missing"))
 
     def _go(self, link: "Link", action: Any) -> None:
         """Does something at the other end of a link, once it gets there."""

@@ -2,13 +2,14 @@
 
 import asyncio
 from collections.abc import Mapping
+from functools import lru_cache, partial
 from typing import Any, NamedTuple, cast
 from urllib.parse import urlsplit
 
 import aiohttp
 from aiohttp import web
 from aiohttp.http import HttpVersion11, RawRequestMessage
-from aiohttp.streams import StreamReader
+from aiohttp.streams import EMPTY_PAYLOAD, StreamReader
 from multidict import CIMultiDict, CIMultiDictProxy
 from yarl import URL
 
@@ -39,9 +40,7 @@ class Direct:
     async def fetch(
         self, method: str, url: str, headers: Mapping[str, str], body: bytes | None
     ) -> Fetched:
-        parts = urlsplit(url)
-        path = f"{parts.path}?{parts.query}" if parts.query else parts.path
-        at = str(parts.hostname), parts.port or 80
+        at, path = _parts_of(url)
         others = {name: value for name, value in headers.items() if name != beats.HEADER}
         silence = 0.0
         if method == "GET" and beats.HEADER in headers:  # the exchange beats in place of the plane
@@ -71,17 +70,32 @@ class Peer(asyncio.Transport):
         return default
 
 
+@lru_cache(4096)
+def _parts_of(url: str) -> tuple[tuple[str, int], str]:
+    """Returns the address of a URL, and its path with the query."""
+    parts = urlsplit(url)
+    path = f"{parts.path}?{parts.query}" if parts.query else parts.path
+    return (str(parts.hostname), parts.port or 80), path
+
+
+@lru_cache(4096)
+def _url_of(path: str) -> URL:
+    before, _, query = path.partition("?")
+    return URL.build(path=before, query_string=query, encoded=True)
+
+
 class Handlers:
     """Answers requests as a plane's server does."""
 
     def __init__(self, plane: Plane) -> None:
         self._app = plane.application()
         self._app.freeze()
+        self._known: dict[tuple[str, str], tuple[dict[str, str], web.AbstractRoute]] = {}  # routes of paths
         self.failed: list[str] = []  # what was answered by a status of 500
 
     async def answer(self, asked: Asked) -> Fetched:
         try:
-            made = await self._app._handle(self._request(asked))
+            made = await self._handle(self._request(asked))
         except asyncio.CancelledError:
             raise
         except Exception as error:  # as aiohttp's server
@@ -90,22 +104,39 @@ class Handlers:
         body = made.body if isinstance(made, web.Response) else b""
         return Fetched(made.status, made.headers, cast(bytes, body or b""))
 
+    async def _handle(self, request: web.Request) -> web.StreamResponse:
+        """Does what an application of aiohttp does, which looks for the route of each request anew."""
+        key = request.method, request.rel_url.raw_path
+        if key in self._known:
+            match = web.UrlMappingMatchInfo(*self._known[key])
+        else:
+            match = await self._app.router.resolve(request)
+            if match.http_exception is None:
+                self._known[key] = dict(match), match.route
+        match.add_app(self._app)
+        match.freeze()
+        request._match_info = match
+        handler: Any = match.handler
+        for middleware in reversed(self._app.middlewares):
+            handler = partial(middleware, handler=handler)
+        made: web.StreamResponse = await handler(request)
+        return made
+
     def _request(self, asked: Asked) -> web.Request:
         headers = CIMultiDict(asked.headers)
         if asked.body is not None:
             headers["Content-Length"] = str(len(asked.body))
-        raw = tuple((name.encode(), value.encode("latin-1")) for name, value in headers.items())
         message = RawRequestMessage(
-            asked.method, asked.path, HttpVersion11, CIMultiDictProxy(headers), raw, False, None,
-            False, False, URL.build(path=asked.path.partition("?")[0],
-                                    query_string=asked.path.partition("?")[2], encoded=True),
+            asked.method, asked.path, HttpVersion11, CIMultiDictProxy(headers), (), False, None, False, False,
+            _url_of(asked.path),
         )
         loop = asyncio.get_running_loop()
         protocol: Any = asked.peer
-        content = StreamReader(protocol, 1 << 16, loop=loop)
+        content = EMPTY_PAYLOAD
         if asked.body:
+            content = StreamReader(protocol, 1 << 16, loop=loop)
             content.feed_data(asked.body)
-        content.feed_eof()
+            content.feed_eof()
         task: Any = asyncio.current_task()
         has_left, asked.peer.transport = asked.peer.transport is None, asked.peer
         request = web.Request(

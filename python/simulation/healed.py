@@ -13,6 +13,7 @@ from .world import SECOND, Process
 
 RENEWALS = 2  # that each task must make in the time
 SOME_FILES = 3  # beside a log for each job
+LOOKS = 10  # at the keys that nobody serves, in a guard term
 CALLS_SETTLE = 20  # looks at which a plane may be busy before it counts as one that waits
 
 
@@ -34,16 +35,17 @@ def health(cluster: Cluster) -> Health:
     world, term = cluster.world, int(cluster.scene.term * SECOND)
     begun, end = world.now, world.now + 3 * term
     before = {one.process: _renewed(one) for one in _tasks(cluster)}
-    missing = set(unserved(cluster))
+    missing = set(_unnoticed(cluster))
     late: set[str] | None = None
     made = Health()
     while world.now < end:
-        world.run_until(world.now + term // 10)
-        found = set(unserved(cluster))
-        missing &= found
+        world.run_until(world.now + term // LOOKS)
+        if missing:
+            missing &= set(_unnoticed(cluster))
         if made.seconds is None and not missing:
             made.seconds = (world.now - begun) / SECOND
-        if world.now > end - term:  # a key that moves is denied for a lease at most
+        if world.now > end - term and late != set():  # a key that moves is denied for a lease at most
+            found = set(unserved(cluster))
             late = found if late is None else late & found
     made.unserved = sorted(late or ())
     made.not_renewed = [
@@ -76,8 +78,21 @@ def unserved(cluster: Cluster) -> list[str]:
     ]
 
 
+def _unnoticed(cluster: Cluster) -> list[str]:
+    """Returns the keys that no task serves, as far as tasks noticed: they are not asked, which their logs would
+    tell."""
+    return [
+        key for job in cluster.scene.jobs for key in job.keys
+        if not any(_noticed(process, task, key) for process, task in cluster.running(job))
+    ]
+
+
+def _noticed(process: Process, task: Any, key: str) -> bool:
+    return not process.stops and holds(task.served(), slice_key(key.encode()))
+
+
 def _serves(cluster: Cluster, process: Process, task: Any, key: str) -> bool:
-    if process.stops or not holds(task.served(), slice_key(key.encode())):
+    if not _noticed(process, task, key):
         return False
     with cluster.world.inside(process):
         try:

@@ -4,16 +4,18 @@ import asyncio
 from collections import deque
 from collections.abc import Callable
 from concurrent.futures import Executor
+from contextvars import Context, copy_context
 from functools import partial
 from typing import TYPE_CHECKING, Any
-from weakref import WeakSet
+from weakref import ref
 
-from .world import SECOND, Action
+from .world import SECOND, STEP, Action
 
 if TYPE_CHECKING:
     from .world import Process
 
 THREADS = 8  # of an executor that does not say how many it has
+FEW = 256  # tasks of asyncio that are remembered before those that are gone are forgotten
 
 
 class NumberedTask(asyncio.Task[Any]):
@@ -40,17 +42,75 @@ def name_of(task: "asyncio.Task[Any]") -> str:
     return str(coroutine.__qualname__)
 
 
+class Call:
+    """A callback that a loop is to call, as `asyncio.Handle` without what is needed to debug. One without a callback
+    is cancelled."""
+
+    __slots__ = ("loop", "callback", "args", "context")
+
+    def __init__(
+        self, loop: "Loop", callback: Callable[..., object], args: tuple[Any, ...], context: Context | None
+    ) -> None:
+        self.loop, self.args = loop, args
+        self.callback: Callable[..., object] | None = callback
+        self.context = copy_context() if context is None else context
+
+    def cancel(self) -> None:
+        self.callback, self.args = None, ()
+
+    def cancelled(self) -> bool:
+        return self.callback is None
+
+    def run(self) -> None:
+        callback = self.callback
+        if callback is None:
+            return
+        try:
+            self.context.run(callback, *self.args)
+        except (SystemExit, KeyboardInterrupt):
+            raise
+        except BaseException as error:
+            name = getattr(callback, "__qualname__", type(callback).__name__)
+            self.loop.call_exception_handler({"message": f"the callback {name}", "exception": error})
+
+
+class Timer(Call):
+    """A callback that is due once CLOCK_MONOTONIC of its host is at so many ns."""
+
+    __slots__ = ("due",)
+
+    def __init__(
+        self, due: int, loop: "Loop", callback: Callable[..., object], args: tuple[Any, ...], context: Context | None
+    ) -> None:
+        super().__init__(loop, callback, args, context)
+        self.due = due
+
+    def when(self) -> float:
+        return self.due / SECOND
+
+    def ring(self) -> None:
+        if self.callback is None:
+            return
+        if self.loop.process.host.monotonic() < self.due:  # the host slept
+            self.loop.set_timer(self)
+        else:
+            self.run()
+
+
 class Loop(asyncio.AbstractEventLoop):
-    """The event loop of a process: what it is to call stands in the heap of the world."""
+    """The event loop of a process. What it is to call soon stands in a queue, of which one event of the world calls
+    all that is there; timers stand in the heap of the world."""
+
+    get_debug = bool  # type: ignore[assignment]  # False, without a call of Python for each future
 
     def __init__(self, process: "Process") -> None:
         self.process, self.world = process, process.world
-        self.tasks: WeakSet[NumberedTask] = WeakSet()
+        self._ready: deque[Call] = deque()
+        self._is_due = False  # whether an event of the world calls what is ready
+        self._tasks: list[ref[NumberedTask]] = []
+        self._most = FEW  # tasks in the list
         self._workers: dict[Any, Workers] = {}
         self._made = 0
-
-    def get_debug(self) -> bool:
-        return False
 
     def is_running(self) -> bool:
         return True
@@ -61,39 +121,44 @@ class Loop(asyncio.AbstractEventLoop):
     def time(self) -> float:
         return self.process.host.monotonic() / SECOND
 
-    def call_soon(self, callback: Any, *args: Any, context: Any = None) -> asyncio.Handle:
-        handle = asyncio.Handle(callback, args, self, context)
-        self.world.at(self.world.now, partial(_run, handle), self.process)
-        return handle
+    def call_soon(self, callback: Any, *args: Any, context: Any = None) -> Any:
+        made = Call(self, callback, args, context)
+        self._ready.append(made)
+        if not self._is_due:
+            self._is_due = True
+            self.world.at(self.world.now, self._call_ready, self.process)
+        return made
 
     call_soon_threadsafe = call_soon
 
-    def call_later(
-        self, delay: float, callback: Any, *args: Any, context: Any = None
-    ) -> asyncio.TimerHandle:
-        return self.call_at(self.time() + delay, callback, *args, context=context)
+    def _call_ready(self) -> None:
+        """Calls what is ready, until nothing is, something else happens, or the process stands still."""
+        ready, world, process = self._ready, self.world, self.process
+        while ready and not (process.stops or process.is_dead):
+            for _ in range(len(ready)):
+                world.now += STEP
+                ready.popleft().run()
+                if process.stops or process.is_dead:
+                    break
+            if world.has_due():
+                break
+        self._is_due = bool(ready)
+        if ready:
+            world.at(world.now, self._call_ready, process)
 
-    def call_at(
-        self, when: float, callback: Any, *args: Any, context: Any = None
-    ) -> asyncio.TimerHandle:
-        handle = asyncio.TimerHandle(when, callback, args, self, context)
-        self._set_timer(handle)
-        return handle
+    def call_later(self, delay: float, callback: Any, *args: Any, context: Any = None) -> Any:
+        host, ns = self.process.host, int(delay * SECOND)
+        made = Timer(host.monotonic() + ns, self, callback, args, context)
+        self.world.at(self.world.now + host.lasts(ns), made.ring, self.process)
+        return made
 
-    def _set_timer(self, handle: asyncio.TimerHandle) -> None:
-        when = self.process.host.until(handle.when())
-        self.world.at(when, partial(self._ring, handle), self.process)
+    def call_at(self, when: float, callback: Any, *args: Any, context: Any = None) -> Any:
+        made = Timer(int(when * SECOND), self, callback, args, context)
+        self.set_timer(made)
+        return made
 
-    def _ring(self, handle: asyncio.TimerHandle) -> None:
-        if handle.cancelled():
-            return
-        if self.process.host.monotonic() < int(handle.when() * SECOND):  # the host slept
-            self._set_timer(handle)
-        else:
-            _run(handle)
-
-    def _timer_handle_cancelled(self, handle: asyncio.TimerHandle) -> None:
-        pass
+    def set_timer(self, timer: Timer) -> None:
+        self.world.at(self.process.host.until(timer.due), timer.ring, self.process)
 
     def _next(self) -> int:
         self._made += 1
@@ -110,8 +175,16 @@ class Loop(asyncio.AbstractEventLoop):
         made.number = number  # before it is put into the set of all tasks
         made.__init__(  # type: ignore[misc]
             coro, loop=self, name=name or f"{number}", context=context)
-        self.tasks.add(made)
+        self._tasks.append(ref(made))
+        if len(self._tasks) > self._most:
+            self._tasks = [it for it in self._tasks if it() is not None]
+            self._most = 2 * len(self._tasks) + FEW
         return made
+
+    @property
+    def tasks(self) -> list[NumberedTask]:
+        """Returns the tasks that somebody has, in the order in which they were made."""
+        return [task for it in self._tasks if (task := it()) is not None]
 
     def call_exception_handler(self, context: dict[str, Any]) -> None:
         error, task = context.get("exception"), context.get("task") or context.get("future")
@@ -122,14 +195,11 @@ class Loop(asyncio.AbstractEventLoop):
 
     def note_dead_tasks(self) -> None:
         """Notes the tasks that ended by an exception which nobody has taken."""
-        found = [
-            task for task in self.tasks
-            if task.done() and not task.cancelled() and getattr(task, "_log_traceback")
-        ]
-        for task in sorted(found, key=lambda it: it.number):
-            error = task.exception()
-            assert error is not None
-            self.world.note_death(self.process, name_of(task), error)
+        for task in self.tasks:
+            if task.done() and not task.cancelled() and getattr(task, "_log_traceback"):
+                error = task.exception()
+                assert error is not None
+                self.world.note_death(self.process, name_of(task), error)
 
     def add_signal_handler(self, sig: int, callback: Any, *args: Any) -> None:
         self.process.on_signal = callback
@@ -151,11 +221,6 @@ class Loop(asyncio.AbstractEventLoop):
         self, factory: Any, host: Any = None, port: Any = None, **_: Any
     ) -> Any:
         return await self.world.network.connect(self.process, factory, host, port)
-
-
-def _run(handle: asyncio.Handle) -> None:
-    if not handle.cancelled():
-        handle._run()
 
 
 class Held(Exception):

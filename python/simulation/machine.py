@@ -14,23 +14,29 @@ class Machine(System):
     file the process may stall."""
 
     def __init__(self, process: Process) -> None:
-        self.process, self._host = process, process.host
+        self.process, self._host, self._world = process, process.host, process.world
 
     def ticks(self) -> int:
-        self.process.world.may_stall()
+        if not self._world.stall_every:
+            return self._host.boottime() // MILLISECOND
+        self._world.may_stall()
         made = self._host.boottime() // MILLISECOND
-        self.process.world.may_stall()
+        self._world.may_stall()
         return made
 
     def monotonic(self) -> float:
         return self._host.monotonic() / SECOND
 
     def real_nanoseconds(self) -> int:
-        self.process.world.may_stall()
+        if self._world.stall_every:
+            self._world.may_stall()
         return self._host.real_time()
 
     def boot(self) -> bytes:
         return self._host.boot_id()
+
+    def secret(self, length: int) -> bytes:
+        return self.process.rng.randbytes(length)
 
     def random(self) -> Random:
         return Random(self.process.rng.getrandbits(64))
@@ -42,7 +48,8 @@ class Machine(System):
         return self._host.disk.open(self.process, path, flags, mode)
 
     def write(self, file: int, data: Any) -> int:
-        self.process.world.may_stall()
+        if self._world.stall_every:
+            self._world.may_stall()
         return self._host.disk.write(self.process, file, data)
 
     def allocate(self, file: int, start: int, length: int) -> None:

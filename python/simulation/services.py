@@ -151,7 +151,8 @@ class Cluster:
         folder = self.folder / address
         folder.mkdir(parents=True, exist_ok=True)
         wall = int(rng.gauss(0, 2) * SECOND) if self.scene.is_skewed else 0
-        host = self.network.hosts[address] = Host(self.world, address, ppm, wall, Disk(folder))
+        disk = Disk(folder, "power" in self.scene.kinds)
+        host = self.network.hosts[address] = Host(self.world, address, ppm, wall, disk)
         return host
 
     def of(self, kind: str) -> list[Service]:

@@ -14,7 +14,7 @@ from dataclasses import dataclass
 from random import Random
 from typing import Any, TypeVar
 
-from hourstable.store import Conflict, NoSuchJob, Store, Stored, StoreFailed
+from hourstable.store import Conflict, Holding, NoSuchJob, Store, Stored, StoreFailed
 from hourstable.system import System
 
 from .loop import Held
@@ -32,6 +32,8 @@ class Row:
     kept: bytes
     line: str | None
     lives: str
+    holder: str = ""
+    rights: str = ""
 
 
 class Rows:
@@ -43,25 +45,27 @@ class Rows:
     def jobs(self) -> list[str]:
         return sorted(self.rows)
 
-    def create(self, job: str, policy: str, kept: bytes) -> int:
+    def create(self, job: str, policy: str, kept: bytes, rights: str) -> int:
         if job in self.rows:
             raise Conflict(f"{job} has a row")
-        self.rows[job] = Row(1, policy, kept, None, "{}")
+        self.rows[job] = Row(1, policy, kept, None, "{}", rights=rights)
         return 1
 
     def load(self, job: str) -> Stored | None:
         row = self.rows.get(job)
-        return Stored(row.version, row.policy, row.kept, row.line) if row else None
+        return Stored(row.version, row.policy, row.kept, row.line, row.holder, row.rights) if row else None
 
     def version(self, job: str) -> int | None:
         row = self.rows.get(job)
         return row.version if row else None
 
-    def swap(self, job: str, version: int, kept: bytes, line: str | None) -> int:
+    def swap(self, job: str, version: int, kept: bytes, line: str | None, holding: Holding | None) -> int:
         row = self.rows.get(job)
-        if row is None or row.version != version:
+        if row is None or row.version != version or (holding is not None and row.holder != holding.before):
             raise Conflict(f"{job} is not of version {version}")
         row.version, row.kept, row.line = version + 1, kept, line
+        if holding is not None:
+            row.holder, row.rights = holding.holder, holding.rights
         return row.version
 
     def read_lives(self, job: str) -> tuple[str, Any]:
@@ -162,8 +166,8 @@ class SharedStore(Store):
     async def jobs(self) -> list[str]:
         return await self._do(self._rows.jobs, "", False)
 
-    async def create(self, job: str, policy: str, kept: bytes) -> int:
-        return await self._do(lambda: self._rows.create(job, policy, kept), job, True)
+    async def create(self, job: str, policy: str, kept: bytes, rights: str = "") -> int:
+        return await self._do(lambda: self._rows.create(job, policy, kept, rights), job, True)
 
     async def load(self, job: str) -> Stored | None:
         return await self._do(lambda: self._rows.load(job), job, False)
@@ -171,8 +175,10 @@ class SharedStore(Store):
     async def version(self, job: str) -> int | None:
         return await self._do(lambda: self._rows.version(job), job, False)
 
-    async def swap(self, job: str, version: int, kept: bytes, line: str | None) -> int:
-        return await self._do(lambda: self._rows.swap(job, version, kept, line), job, True)
+    async def swap(
+        self, job: str, version: int, kept: bytes, line: str | None, holding: Holding | None = None
+    ) -> int:
+        return await self._do(lambda: self._rows.swap(job, version, kept, line, holding), job, True)
 
     async def read_lives(self, job: str) -> tuple[str, Any]:
         return await self._do(lambda: self._rows.read_lives(job), job, False)

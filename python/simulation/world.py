@@ -7,8 +7,7 @@ killed by forgetting them: no `finally` of it runs.
 
 import asyncio
 from asyncio import events
-from collections.abc import Callable, Iterator
-from contextlib import contextmanager
+from collections.abc import Callable
 from heapq import heappop, heappush
 from random import Random
 from typing import TYPE_CHECKING, Any, NamedTuple
@@ -53,7 +52,8 @@ class Host:
 
     def monotonic(self) -> int:
         """Returns CLOCK_MONOTONIC in ns."""
-        return self.boottime() - self.slept
+        passed = self.world.now - self._begun
+        return self._epoch + passed + passed * self.ppm // MILLION - self.slept
 
     def real_time(self) -> int:
         """Returns CLOCK_REALTIME in ns."""
@@ -67,10 +67,13 @@ class Host:
         """Lets CLOCK_BOOTTIME and CLOCK_MONOTONIC jump ahead, as no clock of Linux does."""
         self._epoch += nanoseconds
 
-    def until(self, monotonic: float) -> int:
-        """Returns the world's time at which CLOCK_MONOTONIC reaches a value in seconds."""
-        left = int(monotonic * SECOND) - self.monotonic()
-        return self.world.now + max(0, left * MILLION // (MILLION + self.ppm) + 1)
+    def until(self, monotonic: int) -> int:
+        """Returns the world's time at which CLOCK_MONOTONIC reaches a value in ns."""
+        return self.world.now + self.lasts(monotonic - self.monotonic())
+
+    def lasts(self, nanoseconds: int) -> int:
+        """Returns how long the world takes for so many ns of CLOCK_MONOTONIC, and a little more."""
+        return max(0, nanoseconds * MILLION // (MILLION + self.ppm) + 1)
 
     def boot_id(self) -> bytes:
         return f"{self.address}-{self.boots}".encode()
@@ -149,7 +152,7 @@ class World:
         self.stall_rng = Random(f"{seed} stalls")
         self._heap: list[tuple[int, int, Process | None, Any]] = []
         self._orders = self._numbers = self._depth = 0
-        self._is_quiet = False
+        self.is_quiet = False
         self._tell = tell
 
     def next_number(self) -> int:
@@ -165,44 +168,48 @@ class World:
         self.at(self.now + int(seconds * SECOND), action)
 
     def run_until(self, end: int) -> None:
-        heap = self._heap
+        heap, enter = self._heap, self.enter
         while heap and heap[0][0] <= end:
             when, _, process, action = heappop(heap)
-            self.now = max(self.now, when) + STEP
-            self.enter(process, action)
+            now = self.now
+            self.now = (when if when > now else now) + STEP
+            enter(process, action)
         self.now = max(self.now, end)
+
+    def has_due(self) -> bool:
+        """Whether something else is to happen by now."""
+        return bool(self._heap) and self._heap[0][0] <= self.now
 
     def enter(self, process: Process | None, action: Any) -> None:
         """Does an action as code of a process: later if it stands still, never if it is dead."""
         if process is None:
-            self.current = None
-            events._set_running_loop(None)
-            action()
+            if self.current is not None:
+                self.be(None)
+        elif process.is_dead:
+            return
         elif process.stops:
             process.backlog.append(action)
-        elif not process.is_dead:
+            return
+        else:
             self.events += 1
-            self.digest = (self.digest * 1_000_003 + self.now * 64 + process.number) & (1 << 64) - 1
-            self.current = process
-            events._set_running_loop(process.loop)
-            action()
+            self.digest = hash((self.digest, self.now, process.number))
+            if process is not self.current:
+                self.be(process)
+        action()
 
-    @contextmanager
-    def inside(self, process: Process) -> Iterator[None]:
+    def be(self, process: Process | None) -> None:
+        """Runs what follows as code of a process, or of the world."""
+        self.current = process
+        events._set_running_loop(process.loop if process else None)
+
+    def inside(self, process: Process) -> "Inside":
         """Runs code as that of a process, now, even if it stands still. All of it is at one moment."""
-        before, self.current = self.current, process
-        quiet, self._is_quiet = self._is_quiet, True
-        events._set_running_loop(process.loop)
-        try:
-            yield
-        finally:
-            self.current, self._is_quiet = before, quiet
-            events._set_running_loop(before.loop if before else None)
+        return Inside(self, process)
 
     def may_stall(self) -> None:
         """A place at which the kernel may take the processor away from the running process."""
         process = self.current
-        if self.stall_every and process is not None and not (process.stops or self._is_quiet):
+        if self.stall_every and process is not None and not (process.stops or self.is_quiet):
             if self._depth < DEEPEST and self.stall_rng.random() < self.stall_every:
                 self._stall(process)
 
@@ -215,8 +222,7 @@ class World:
         process.is_stalled = False
         process.go_on()
         self._depth -= 1
-        self.current = process
-        events._set_running_loop(process.loop)
+        self.be(process)
 
     def tell(self, text: str) -> None:
         """Notes something in the trace."""
@@ -229,3 +235,19 @@ class World:
         if not process.is_to_end:
             self.died.append(death)
         self.tell(f"{process.name}: {name} ended by {death.error}")
+
+
+class Inside:
+    """A block of code that runs as that of a process."""
+
+    def __init__(self, world: World, process: Process) -> None:
+        self._world, self._process = world, process
+        self._before, self._quiet = world.current, world.is_quiet
+
+    def __enter__(self) -> None:
+        self._world.is_quiet = True
+        self._world.be(self._process)
+
+    def __exit__(self, *_: object) -> None:
+        self._world.is_quiet = self._quiet
+        self._world.be(self._before)

@@ -44,6 +44,7 @@ class Caller:
 
     def __init__(self, url: str, session: aiohttp.ClientSession, job: str = "shop") -> None:
         self.url, self.session, self.job = url, session, job
+        self.lives: dict[int, int] = {}  # that were drawn
 
     async def ask(
         self, method: str, path: str, body: object = None, headers: dict[str, str] | None = None,
@@ -63,7 +64,17 @@ class Caller:
     async def get(self, what: str = "") -> Answer:
         return await self.ask("GET", f"/jobs/{self.job}{what}")
 
+    async def begin(self, task: int, life: int = 1) -> None:
+        """Draws lives of a task up to one."""
+        while self.lives.get(task, 0) < life:
+            drawn = await self.post(f"tasks/{task}/life")
+            if drawn.status != 200:
+                break
+            self.lives[task] = drawn.json["life"]
+
     async def grant(self, task: int, life: int = 1) -> Answer:
+        """Asks for a grant of a life, which is drawn before if it was not."""
+        await self.begin(task, life)
         return await self.post("grant", {"task": task, "life": life})
 
     async def take(self, assigner: int = 1) -> int:

@@ -18,6 +18,7 @@ from hourstable import logs  # noqa: E402
 from hourstable.auditing import Audit, gaps_of  # noqa: E402
 from hourstable.command import main, options_of, parser  # noqa: E402
 from hourstable.plans import Hysteresis  # noqa: E402
+from hourstable.rights import Asked  # noqa: E402
 from hourstable.service import ControlPlane, Options  # noqa: E402
 from hourstable.system import System  # noqa: E402
 from hourstable.task import Denied, Task  # noqa: E402
@@ -174,7 +175,7 @@ async def test_what_a_plane_looks_for_in_old_logs_keeps_up_no_other_call(
     options = Options(f"sqlite:{tmp_path}/jobs", tmp_path / "logs", assigner=0)
     async with ControlPlane(options) as plane:
         assert plane.plane is not None
-        answer = await plane.plane.begin_grant("shop", 1, 7)
+        answer = await plane.plane.begin_grant("shop", Asked(1, 7))
         await until(waits.is_set)
         goes_on.set()
         assert (await answer).result is not None

@@ -20,7 +20,7 @@ from prometheus_client.parser import text_string_to_metric_families  # noqa: E40
 from hourstable import waits  # noqa: E402
 from hourstable.control import Limits, Plane  # noqa: E402
 from hourstable.library import Slicelet  # noqa: E402
-from hourstable.store import Store, StoreFailed  # noqa: E402
+from hourstable.store import Holding, Store, StoreFailed  # noqa: E402
 from hourstable.waiting import within  # noqa: E402
 from serving import HALF, POLICY, Answer, Caller, assignment, lines_of, running  # noqa: E402
 from stores import opened  # noqa: E402
@@ -40,10 +40,12 @@ class Trouble:
     def __getattr__(self, name: str) -> Any:
         return getattr(self._store, name)
 
-    async def swap(self, job: str, version: int, kept: bytes, line: str | None) -> int:
+    async def swap(
+        self, job: str, version: int, kept: bytes, line: str | None, holding: Holding | None = None
+    ) -> int:
         before, after = self.before, self.after
         await done(before)
-        made = await self._store.swap(job, version, kept, line)
+        made = await self._store.swap(job, version, kept, line, holding)
         await done(after)
         return made
 
@@ -64,6 +66,8 @@ async def begun(caller: Caller, slices: list[Any] = WHOLE) -> int:
     assert (await caller.create()).status == 201
     term = await caller.take()
     await caller.change(term, 1, slices)
+    await caller.begin(1)
+    await caller.begin(2)
     return term
 
 
@@ -400,11 +404,13 @@ class Slow(Trouble):
         self._next.append(asyncio.Event())
         return self._next[-1]
 
-    async def swap(self, job: str, version: int, kept: bytes, line: str | None) -> int:
+    async def swap(
+        self, job: str, version: int, kept: bytes, line: str | None, holding: Holding | None = None
+    ) -> int:
         self.swaps += 1
         if self._next:
             await within(10, self._next.pop(0).wait())
-        return await super().swap(job, version, kept, line)
+        return await super().swap(job, version, kept, line, holding)
 
 
 async def told_together(
@@ -413,6 +419,10 @@ async def told_together(
 ) -> list[Answer]:
     """Makes a grant, and calls that wait while it is stored; calls `then` before they are. Returns
     the answers to these calls."""
+    for call, body in calls:
+        if call == "grant" and isinstance(body, dict):
+            await caller.begin(body["task"], body["life"])
+    await caller.begin(1)
     job, go = plane.jobs["shop"].job, slow.hold_up()
     first = asyncio.create_task(caller.grant(1))
     waiting = []
@@ -527,8 +537,9 @@ async def test_several_grants_of_one_call(file: Store, tmp_path: Path) -> None:
     logs, limits = tmp_path / "logs", Limits(grants=1, burst=2)
     async with running(file, logs, shared=True, limits=limits) as (_, caller):
         await begun(caller)
-        caller.job = "empty"
+        caller.job, caller.lives = "empty", {}
         await caller.create()
+        await caller.begin(1)
 
         def asked(job: object, task: int) -> dict[str, object]:
             return {"job": job, "task": task, "life": 1}
@@ -623,7 +634,7 @@ async def test_most_grants_store_nothing(file: Store, tmp_path: Path) -> None:
         await begun(caller)
         swaps.clear()
         told = [await caller.grant(1) for _ in range(42)]
-        assert len(swaps) == 2  # at grants 20 and 40; the commit saved ahead too
+        assert len(swaps) == 3  # the first lets the life in; the commit saved ahead too
         assert [int(one.json["value"]["number"]) for one in told] == list(range(1, 43))
         swaps.clear()
         assert (await caller.post("renew", {"term": 9})).status == 409

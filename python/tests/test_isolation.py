@@ -272,10 +272,12 @@ async def test_calls_on_a_full_disk(file: Store, tmp_path: Path, ahead: tuple[in
     system = Full()
     async with running(file, tmp_path / "logs", ahead=ahead, system=system) as (_, caller):
         await begun(caller)
+        await caller.begin(1)
+        await caller.begin(2)
         system.is_full = True
         assert [(await caller.grant(1)).status for _ in range(3)] == [200, 200, 200]
         assert (await caller.post("take", {"assigner": 2})).status == 409
-        assert (await caller.post("tasks/1/life")).json["life"] == 1
+        assert (await caller.post("tasks/1/life")).json["life"] == 2
         assert await failed(caller) == {}
         assert await metric(caller, 'hourstable_log_lines_missing_total{job="shop"}') == 4
         granted = granted_in(await file.load("shop"))
@@ -511,7 +513,9 @@ async def test_several_grants_of_which_one_fails(file: Store, tmp_path: Path) ->
     """Each is answered by itself, also if what nobody expects is met for one job."""
     async with running(file, tmp_path / "logs") as (_, caller):
         for name in ("other", "shop"):
-            await begun(Caller(caller.url, caller.session, name))
+            other = Caller(caller.url, caller.session, name)
+            await begun(other)
+            await other.begin(1)
     store: Any = Unreadable(file)
     async with running(store, tmp_path / "logs") as (_, caller):
         asked = [{"job": job, "task": 1, "life": 1} for job in ("shop", "other", "shop")]

@@ -29,6 +29,7 @@ async def test_no_call_is_refused_for_its_ticket(file: Store, tmp_path: Path) ->
     """One of two days ahead is followed; one beyond all clocks is not, and is counted."""
     async with running(file, tmp_path / "logs") as (_, caller):
         await begun(caller)
+        await caller.begin(1)
         first = int((await caller.ask("GET", "/healthz")).headers["Hourstable-Ticket"])
         body, days = {"task": 1, "life": 1}, first + (2 * 86_400_000 << 16)
         for ticket, follows in ((days, True), (1 << 63, False), ((1 << 64) - 1, False), (1 << 70, False)):

@@ -19,6 +19,7 @@ from hourstable import logs  # noqa: E402
 from hourstable.assigner import AssignerOfJobs  # noqa: E402
 from hourstable.client import Router  # noqa: E402
 from hourstable.plans import Hysteresis  # noqa: E402
+from hourstable.rights import Asked  # noqa: E402
 from hourstable.service import ControlPlane, Options  # noqa: E402
 from hourstable.store import Store, open_store  # noqa: E402
 from hourstable.system import System  # noqa: E402
@@ -119,7 +120,8 @@ async def test_whether_a_plane_is_idle(tmp_path: Path) -> None:
         await plane.create("shop", POLICY)
         job = plane.jobs["shop"].job
         assert plane.idle() and job.idle()
-        answer = await plane.begin_grant("shop", 1, 1)
+        await job.raise_life(1)
+        answer = await plane.begin_grant("shop", Asked(1, 1))
         assert not plane.idle() and not job.idle()
         assert (await answer).refusal is not None  # nothing is committed
         await until(plane.idle)

@@ -31,9 +31,9 @@ class LateStore:
         self._later: asyncio.Queue[tuple[Any, ...]] = asyncio.Queue()
         self._writing = asyncio.create_task(self._write())
 
-    async def swap(self, job: str, version: Any, kept: Any, line: Any) -> Any:
+    async def swap(self, job: str, version: Any, *row: Any) -> Any:
         told = ("told", time.monotonic_ns())
-        self._later.put_nowait((time.monotonic() + LATE, job, version, kept, line, told))
+        self._later.put_nowait((time.monotonic() + LATE, job, version, row, told))
         self._told[job] = told
         return told
 
@@ -42,11 +42,11 @@ class LateStore:
 
     async def _write(self) -> None:
         while True:
-            at, job, version, kept, line, told = await self._later.get()
+            at, job, version, row, told = await self._later.get()
             await asyncio.sleep(max(0.0, at - time.monotonic()))
             version = self._versions.pop((job, version), version)
             try:
-                self._versions[job, told] = await self._store.swap(job, version, kept, line)
+                self._versions[job, told] = await self._store.swap(job, version, *row)
             except Exception:
                 pass
 
