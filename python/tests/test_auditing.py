@@ -22,6 +22,7 @@ from hourstable.rights import Asked  # noqa: E402
 from hourstable.service import ControlPlane, Options  # noqa: E402
 from hourstable.system import System  # noqa: E402
 from hourstable.task import Denied, Task  # noqa: E402
+from lines import line_of  # noqa: E402
 from serving import POLICY  # noqa: E402
 
 DAY = 86_400_000_000_000
@@ -244,7 +245,7 @@ def written(folder: Path, name: str, *lines: str) -> None:
 
 
 def call(ticket: int) -> str:
-    return logs.line_of(ticket, "lose", "lost 0")
+    return line_of(ticket, "lose", "lost 0")
 
 
 def test_gaps_of_logs(tmp_path: Path) -> None:
