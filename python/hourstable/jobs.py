@@ -25,7 +25,7 @@ from typing import Any, Generic, NamedTuple, TypeVar
 from hourstable import library, logs
 from hourstable.clock import JobClock
 from hourstable.kept_log import KeptLog
-from hourstable.library import Policy, Refused, Table
+from hourstable.library import CALLS, LoggedCall, Policy, Refused, Table, log_line
 from hourstable.rights import SECRET, NotAdmitted, Rights, WrongKey
 from hourstable.standstill import Standstill
 from hourstable.store import Conflict, Damaged, Holding, Life, NoSuchJob, Store, Stored, StoreFailed
@@ -523,17 +523,11 @@ class Job:
         lacking = await asyncio.to_thread(self._log.lacking, row.lines)  # which reads a day or two of lines
         if lacking:
             self._log.append(*lacking)
-        value = json.loads(stored.kept)["value"]
-        last, granted, deadline = (int(value[name]) for name in ("last", "granted", "deadline"))
-        generation = int(value["committed"]["generation"]) if value["committed"] else 0
-        line = logs.line_of(
-            self.tickets.draw(), "restore", f"restored generation {generation} grace {deadline}",
-            last=last, granted=granted, deadline=deadline,
-        )
+        line = log_line(self.name, LoggedCall(self.tickets.draw(), CALLS["restore"]), stored.kept)
         written = Row(row.ahead, [*self._log.gap(), line])
         version = await self._write((stored.version, stored.holder), stored.kept, written, rights)
         self._log.append(line)
-        self.grace = deadline
+        self.grace = int(json.loads(stored.kept)["value"]["deadline"])
         self._counters.restored(self.name)
         return version, line
 
@@ -690,18 +684,19 @@ class Job:
     def _play_one(self, held: Held, one: Waiting, at: int) -> Played | None:
         """Plays a call on the table. One that the library cannot read is answered."""
         call = one.call
-        ticket = self.tickets.draw()  # after the reading: a plane may be stopped in between
+        logged = call.logged(self.tickets.draw(), at)  # after the reading: a plane may be stopped in between
         try:
             result = call.play(held.table, at)
-            made, reply = Made(result, None, at), call.tell(result)
+            made, message = Made(result, None, at), call.wrote(logged, result)
             held.accepted = at
         except Refused as refusal:
             if refusal.code < 0:
                 one.fail(Malformed(str(refusal)))
                 return None
-            made = Made(None, refusal, at)
-            reply = logs.told_refusal(call.do, str(refusal))
-        return Played(one, made, logs.line_of(ticket, call.do, reply, **call.members, at=at))
+            made, message = Made(None, refusal, at), call.message
+            logged.code = refusal.code
+        logged.told = held.table.told
+        return Played(one, made, log_line(self.name, logged, message))
 
     async def _keep(self, held: Held, played: list[Played], at: int) -> None:
         """Stores calls that were played, logs them, and answers them."""

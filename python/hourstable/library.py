@@ -555,15 +555,15 @@ def done(code: int, told: Told | None = None) -> None:
         raise Refused(code, carried_by(name_of(code), told) if told else None)
 
 
-def text_of(call: Callable[..., int], *given: CType) -> bytes:
-    """Returns the text that a call writes. If it does not fit, calls again with a longer buffer."""
-    room, needed = ctypes.create_string_buffer(1024), ctypes.c_size_t()
-    code = call(*given, room, len(room), ctypes.byref(needed))
+def text_of(call: Callable[..., int], *given: CType, room: int = 1024) -> bytes:
+    """Returns the text that a call writes. If it does not fit into `room` bytes, calls again with a longer buffer."""
+    out, needed = ctypes.create_string_buffer(room), ctypes.c_size_t()
+    code = call(*given, out, room, ctypes.byref(needed))
     if code == -2:
-        room = ctypes.create_string_buffer(needed.value)
-        code = call(*given, room, len(room), ctypes.byref(needed))
+        out = ctypes.create_string_buffer(needed.value)
+        code = call(*given, out, len(out), ctypes.byref(needed))
     done(code)
-    return ctypes.string_at(room, needed.value)
+    return ctypes.string_at(out, needed.value)
 
 
 def list_of(c_type: CType, call: Callable[..., int], *given: CType) -> list[Any]:
@@ -658,7 +658,8 @@ def log_line(job: str, call: LoggedCall, message: bytes = b"") -> str:
     """Returns the line of a call for `hourstable audit`, without its line feed. `message` is what a
     propose, free, restore, hear or learn passed, or what a grant or release that is done made."""
     given = (*named(job), ctypes.byref(call), message, len(message))
-    return text_of(library.hs_log_line, *given).decode().removesuffix("\n")
+    line = text_of(library.hs_log_line, *given, room=LINE + len(message))  # in which each line of a call finds room
+    return line.decode().removesuffix("\n")
 
 
 def plan(

@@ -33,7 +33,7 @@ A_DAY = 86_400_000_000_000  # nanoseconds
 PIECE = 1 << 20  # bytes of a file that are looked through at a time
 COMPACT = json.JSONEncoder(separators=(",", ":"))
 NAME = re.compile(r"[A-Za-z0-9_-][A-Za-z0-9._-]{0,63}")
-TICKET = re.compile(rb'\n\{"ticket":(\d{1,20}),')
+TICKET = re.compile(rb'^\{"ticket":(\d{1,20}),|,"ticket":(\d{1,20})\}$', re.MULTILINE)  # of a call, first or last
 DAY = re.compile(r"\.(\d{4}-\d\d-\d\d)\.jsonl$")
 log = logging.getLogger("hourstable.logs")
 
@@ -46,36 +46,12 @@ def job_line(policy: Mapping[str, object]) -> str:
     return json.dumps({"job": job}, separators=(",", ":"), sort_keys=True)
 
 
-def line_of(ticket: int, do: str, reply: str, **members: object) -> str:
-    """Returns the line of a call: its ticket, its name, its other members and the words that its
-    caller was told."""
-    call = {"ticket": ticket, "do": do, **members, "reply": reply}
-    return COMPACT.encode(call)
-
-
 def told_refusal(do: str, words: str) -> str:
     """Returns the reply of a call that is not done, from the text of Refused: a key is denied, a
     handle is broken, and any other call is refused."""
     if words == "broken":
         return words
     return f"{'denied' if do in ('serve', 'hold') else 'refused'} {words}"
-
-
-def told_phase(committed: int, proposed: int) -> str:
-    """Returns the reply of `phase`; `proposed` is 0 for none."""
-    return f"phase bridging {committed} {proposed}" if proposed else f"phase steady {committed}"
-
-
-def told_grant(grant: Mapping[str, object]) -> str:
-    """Returns the reply of `grant`, from the value of the message."""
-    return "grant {number} {kind} {generation} until {until} {ends}".format(**grant)
-
-
-def value_of(message: bytes | str) -> dict[str, Any]:
-    """Returns the value of a message, which is what the line of a call that delivers it has."""
-    value = json.loads(message)["value"]
-    assert isinstance(value, dict)
-    return value
 
 
 def folder_of(top: str | os.PathLike[str], job: str) -> Path:
@@ -153,9 +129,9 @@ class Log:
             raise
 
     def lacking(self, lines: Sequence[str]) -> list[str]:
-        """Returns those of the lines that are not in the two newest files. The lines are of line_of
-        and were appended together, so if the first one is missing, all are. It reads the files,
-        which may take a while."""
+        """Returns those of the lines that are not in the two newest files. The lines are of calls that
+        were appended together, so if the first one is missing, all are. It reads the files, which may
+        take a while."""
         files = self._files()[-2:]
         found = {line for path in files for line in _lines_from(path, lines[0].encode())}
         return [line for line in lines if line.encode() not in found]
@@ -320,8 +296,8 @@ def last_ticket(path: Path) -> int:
     """Returns the ticket of the last call of a file, 0 if it has none."""
     with open(path, "rb") as file:
         file.seek(max(0, os.fstat(file.fileno()).st_size - PIECE))
-        found = TICKET.findall(file.read())
-    return int(found[-1]) if found else max((call["ticket"] for call in calls_of(path)), default=0)
+        found = TICKET.findall(file.read().rpartition(b"\n")[0])
+    return int(b"".join(found[-1])) if found else max((call["ticket"] for call in calls_of(path)), default=0)
 
 
 def files_of(folder: str | os.PathLike[str]) -> list[Path]:
@@ -366,9 +342,9 @@ def lay_out(
 
 def ticket_of(line: bytes, default: int) -> int:
     """Returns the ticket of the line of a call, the default if it is none, as a blank or a torn line."""
-    found = TICKET.match(b"\n" + line[:64])
+    found = TICKET.match(line[:64]) or TICKET.search(line[-64:])
     if found is not None:
-        return int(found[1])
+        return int(found[1] or found[2])
     try:
         ticket = json.loads(line)["ticket"]
     except (ValueError, KeyError, TypeError):

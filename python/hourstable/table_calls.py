@@ -1,11 +1,11 @@
-"""The calls of a table: how each is played on it, what its line of the log says, and what a repeated one returns."""
+"""The calls of a table: how each is played on it, what its line of the log is made of, and what a repeated one
+returns."""
 
 import json
 from abc import ABC, abstractmethod
 from typing import TYPE_CHECKING, Any, Generic, TypeVar
 
-from hourstable import logs
-from hourstable.library import JobTerm, Table
+from hourstable.library import CALLS, JobTerm, LoggedCall, Table
 from hourstable.rights import ENDED, Asked
 
 if TYPE_CHECKING:
@@ -21,20 +21,25 @@ class Malformed(Exception):
 
 
 class Call(ABC, Generic[T]):
-    """A call of a table: its name in logs, and the members of its line. `repeated` asks what earlier
-    calls of the same key did; None if it asks nothing."""
+    """A call of a table: its name in logs, the numbers that it passes as `log_line` takes them, and the message that
+    it delivers. `repeated` asks what earlier calls of the same key did; None if it asks nothing."""
 
     do: str
-    members: dict[str, object]
+    numbers: dict[str, int]
+    message = b""
     key: str | None = None
+
+    def logged(self, ticket: int, at: int) -> LoggedCall:
+        """Returns the call for its line, before it is made."""
+        return LoggedCall(ticket, CALLS[self.do], at=at, **self.numbers)
 
     @abstractmethod
     def play(self, table: Table, at: int) -> T:
         """Calls the library. Raises Refused."""
 
-    @abstractmethod
-    def tell(self, result: T) -> str:
-        """Returns the reply of the line."""
+    def wrote(self, logged: LoggedCall, result: T) -> bytes:
+        """Takes what the call wrote for its line, and returns the message that it delivered or made."""
+        return self.message
 
     def repeated(self, job: "Job") -> T | None:
         """Returns the result of an earlier call that this one repeats, None if it repeats none."""
@@ -54,7 +59,7 @@ class Grant(Call[bytes]):
 
     def __init__(self, asked: Asked) -> None:
         self.asked, self.task, self.life = asked, asked.task, asked.life
-        self.members = {"task": asked.task, "life": asked.life}
+        self.numbers = {"task": asked.task, "life": asked.life}
 
     def admit(self, job: "Job", held: "Held", at: int) -> None:
         if self.task not in job.lives or self.life > job.lives[self.task].life:
@@ -64,8 +69,8 @@ class Grant(Call[bytes]):
     def play(self, table: Table, at: int) -> bytes:
         return table.grant(self.task, self.life, at)
 
-    def tell(self, result: bytes) -> str:
-        return logs.told_grant(value_in(result))
+    def wrote(self, logged: LoggedCall, result: bytes) -> bytes:
+        return result
 
 
 class Free(Call[int]):
@@ -74,17 +79,15 @@ class Free(Call[int]):
     do = "free"
 
     def __init__(self, note: bytes, life_key: str = "") -> None:
-        self.note, self.life_key, value = note, life_key, value_in(note)
-        self.members = {"note": value}
-        self.key: str = json.dumps(value, sort_keys=True)
+        self.note = self.message = note
+        self.life_key, self.value, self.numbers = life_key, value_in(note), {}
+        self.key: str = json.dumps(self.value, sort_keys=True)
 
     def admit(self, job: "Job", held: "Held", at: int) -> None:
         """Looks whether the note is of the task's own life, and one of an ended life not of that which is let in:
         that may have leases."""
-        value = self.members["note"]
-        assert isinstance(value, dict)
         try:
-            task, life, number = (int(value[name]) for name in ("task", "life", "number"))
+            task, life, number = (int(self.value[name]) for name in ("task", "life", "number"))
         except (KeyError, TypeError, ValueError):
             return  # the library says what is wrong with it
         held.rights.check(task, life, self.life_key)
@@ -94,8 +97,9 @@ class Free(Call[int]):
     def play(self, table: Table, at: int) -> int:
         return table.free(self.note, at)
 
-    def tell(self, result: int) -> str:
-        return f"freed {result}"
+    def wrote(self, logged: LoggedCall, result: int) -> bytes:
+        logged.count = result
+        return self.message
 
     def repeated(self, job: "Job") -> int | None:
         return job.notes.get(self.key)
@@ -110,10 +114,10 @@ class OfTerm(Call[JobTerm]):
     """A call that begins or prolongs a term of the job lease. Its result is the term."""
 
     key = TERM
-    told: str
 
-    def tell(self, result: JobTerm) -> str:
-        return f"{self.told} {result.number} until {result.until}"
+    def wrote(self, logged: LoggedCall, result: JobTerm) -> bytes:
+        logged.job_term = result
+        return self.message
 
     def done(self, job: "Job", result: JobTerm) -> None:
         job.term = term_of(result)
@@ -122,11 +126,11 @@ class OfTerm(Call[JobTerm]):
 class Take(OfTerm):
     """An assigner takes the job lease."""
 
-    do, told = "take", "term"
+    do = "take"
 
     def __init__(self, assigner: int) -> None:
         self.assigner = assigner
-        self.members = {"assigner": assigner}
+        self.numbers = {"assigner": assigner}
 
     def play(self, table: Table, at: int) -> JobTerm:
         return table.take(self.assigner, at)
@@ -135,11 +139,11 @@ class Take(OfTerm):
 class Renew(OfTerm):
     """The holder of a term renews it."""
 
-    do, told = "renew", "renewed"
+    do = "renew"
 
     def __init__(self, term: int) -> None:
         self.term = term
-        self.members = {"term": term}
+        self.numbers = {"term": term}
 
     def play(self, table: Table, at: int) -> JobTerm:
         return table.renew(self.term, at)
@@ -152,17 +156,14 @@ class Propose(Call[int]):
     key = TERM
 
     def __init__(self, term: int, assignment: bytes) -> None:
-        self.term, self.assignment = term, assignment
+        self.term, self.message = term, assignment
         self.value = numbers_of(value_in(assignment))
-        self.members = {"term": term, **self.value}
+        self.numbers = {"term": term}
 
     def play(self, table: Table, at: int) -> int:
-        table.propose(self.term, self.assignment, at)
+        table.propose(self.term, self.message, at)
         generation: int = self.value["generation"]
         return generation
-
-    def tell(self, result: int) -> str:
-        return f"proposed {result}"
 
     def repeated(self, job: "Job") -> int | None:
         kept = job.kept()
@@ -184,13 +185,10 @@ class Commit(Call[int]):
 
     def __init__(self, term: int, generation: int | None) -> None:
         self.term, self.generation = term, generation
-        self.members = {"term": term}
+        self.numbers = {"term": term}
 
     def play(self, table: Table, at: int) -> int:
         return table.commit(self.term, at)
-
-    def tell(self, result: int) -> str:
-        return f"committed {result}"
 
     def repeated(self, job: "Job") -> int | None:
         committed, proposed, _ = job.view

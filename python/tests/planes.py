@@ -10,8 +10,9 @@ from typing import Any, TypeVar
 from aiohttp import web
 
 from hourstable.library import KIND_WORDS, Policy, Refused, Table, boottime_ticks
-from hourstable.logs import Log, job_line, line_of, told_grant, told_refusal, value_of
+from hourstable.logs import Log, job_line, told_refusal
 from hourstable.tickets import HEADER, Tickets
+from lines import line_of, told_grant, value_of
 
 T = TypeVar("T")
 JOB = "shop"

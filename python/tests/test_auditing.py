@@ -22,6 +22,7 @@ from hourstable.rights import Asked  # noqa: E402
 from hourstable.service import ControlPlane, Options  # noqa: E402
 from hourstable.system import System  # noqa: E402
 from hourstable.task import Denied, Task  # noqa: E402
+from lines import line_of  # noqa: E402
 from serving import POLICY  # noqa: E402
 from waits import counted  # noqa: E402
 
@@ -175,7 +176,7 @@ async def test_what_a_plane_looks_for_in_old_logs_keeps_up_no_other_call(
     options = Options(f"sqlite:{tmp_path}/jobs", tmp_path / "logs", assigner=0)
     async with ControlPlane(options) as plane:
         assert plane.plane is not None
-        answer = await plane.plane.begin_grant("shop", Asked(1, 7))
+        answer = await plane.plane.begin_grant("shop", Asked(1, 1))
         await until(waits.is_set)
         goes_on.set()
         assert (await answer).result is not None
@@ -250,7 +251,7 @@ def written(folder: Path, name: str, *lines: str) -> None:
 
 
 def call(ticket: int) -> str:
-    return logs.line_of(ticket, "lose", "lost 0")
+    return line_of(ticket, "lose", "lost 0")
 
 
 def test_gaps_of_logs(tmp_path: Path) -> None:

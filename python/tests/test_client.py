@@ -16,6 +16,7 @@ from hourstable.client import Again, NoOwner, Router
 from hourstable.library import Found
 from hourstable.tickets import HEADER, Tickets
 from hourstable.waiting import Backoff
+from lines import line_of
 from planes import JOB, Plane
 
 HALF = 1 << 62
@@ -61,7 +62,7 @@ async def test_a_router_keeps_its_logs_for_some_days(plane: Plane, tmp_path: Pat
     old = tmp_path / JOB / "clerk-3.2020-01-01.jsonl"
     for keep in (None, 30):
         old.parent.mkdir(exist_ok=True)
-        old.write_text(f"{logs.job_line(plane.policy)}\n{logs.line_of(7, 'forget', 'forgotten', clerk=3)}\n")
+        old.write_text(f"{logs.job_line(plane.policy)}\n{line_of(7, 'forget', 'forgotten', clerk=3)}\n")
         async with Router(plane.url, JOB, logs=tmp_path, clerk=3, keep_logs=keep) as router:
             await known(router, 1)
         assert old.exists() == (keep is None)

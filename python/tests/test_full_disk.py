@@ -16,9 +16,10 @@ from hourstable import logs
 from hourstable.auditing import Gap, gaps_of
 from hourstable.client import Router
 from hourstable.kept_log import KeptLog
-from hourstable.logs import Log, job_line, line_of
+from hourstable.logs import Log, job_line
 from hourstable.system import System
 from hourstable.task import Task
+from lines import line_of
 from planes import JOB, POLICY, Plane
 from waits import HALF, LOWER, ground, until
 

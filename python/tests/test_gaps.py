@@ -14,9 +14,10 @@ import needed
 needed.library()
 
 from hourstable import logs  # noqa: E402
-from hourstable.logs import Log, gap_line, line_of  # noqa: E402
+from hourstable.logs import Log, gap_line  # noqa: E402
 from hourstable.segments import SEGMENT, SPARE  # noqa: E402
 from hourstable.system import System  # noqa: E402
+from lines import line_of  # noqa: E402
 
 POLICY = {"redundancy": [1, 1], "skew": 0, "guard": 100, "bridge": 100, "job": 1000, "numbers": 9}
 JOB = logs.job_line(POLICY)

@@ -6,7 +6,8 @@ from pathlib import Path
 import pytest
 
 from hourstable import logs
-from hourstable.logs import Log, line_of
+from hourstable.logs import Log
+from lines import line_of
 
 POLICY = {"redundancy": [1, 1], "skew": 0, "guard": 100, "bridge": 100, "job": 1000, "numbers": 9}
 JOB = logs.job_line(POLICY)
@@ -19,31 +20,12 @@ def test_the_job_line() -> None:
     )
 
 
-def test_a_line_begins_with_its_ticket_and_ends_with_the_reply() -> None:
-    line = line_of(7, "serve", "served guard 1", task=1, key="\u00e9", at=6)
-    expected = r'{"ticket":7,"do":"serve","task":1,"key":"\u00e9","at":6,"reply":"served guard 1"}'
-    assert line == expected
-
-
-def test_words_of_replies() -> None:
-    grant = {
-        "number": "3", "task": 2, "life": 1, "kind": "guard", "generation": "4", "ends": "95",
-        "until": "105",
-    }
-    assert logs.told_grant(grant) == "grant 3 guard 4 until 105 95"
-    assert logs.told_phase(3, 0) == "phase steady 3"
-    assert logs.told_phase(3, 4) == "phase bridging 3 4"
+def test_words_of_refusals() -> None:
     assert logs.told_refusal("serve", "not-owned 2") == "denied not-owned 2"
     assert logs.told_refusal("hold", "no-lease") == "denied no-lease"
     assert logs.told_refusal("hear", "old 2") == "refused old 2"
     assert logs.told_refusal("check", "broken") == "broken"
     assert logs.told_refusal("check", "stranger") == "refused stranger"
-
-
-def test_the_value_of_a_message() -> None:
-    value = b'{"kind":"guard","life":1,"number":"7","task":2}'
-    message = b'{"job":"shop","type":"note","value":' + value + b',"version":2}'
-    assert logs.value_of(message) == {"kind": "guard", "life": 1, "number": "7", "task": 2}
 
 
 def test_each_job_has_a_folder_of_its_own(tmp_path: Path) -> None:
