@@ -132,17 +132,9 @@ func (t *Task) spawnFree(note []byte) {
 	})
 }
 
-// stopAtEvidence ends the task if a grant shows that a clock breaks its drift. The
+// stopAtEvidence ends the task, since a grant shows that a clock breaks its drift. The
 // leases are released first, at the reading that shows it, so that the log has it.
-func (t *Task) stopAtEvidence(held *leases, message []byte) error {
-	at, err := held.read()
-	if err != nil {
-		return err
-	}
-	isBroken, err := hourstable.ClockEvidence(t.config.Job, message, at, t.policy)
-	if err != nil || !isBroken {
-		return err
-	}
+func (t *Task) stopAtEvidence(held *leases) error {
 	t.countBehind()
 	for _, kind := range kinds {
 		if note, err := held.release(kind); err == nil {

@@ -1,7 +1,6 @@
 package service
 
 import (
-	"encoding/json"
 	"errors"
 	"fmt"
 	"sync"
@@ -39,12 +38,11 @@ func (l *leases) begin(last uint32) error {
 	}
 	l.slicelet, l.held = slicelet, map[hourstable.Kind]hourstable.Grant{}
 	l.part = l.log.open()
-	line, err := l.line("open", fmt.Sprintf("opened %d", last), map[string]any{"task": l.task, "life": last})
+	ticket, err := l.ticket(true)
 	if err != nil {
 		return err
 	}
-	l.log.append(l.part, line)
-	return nil
+	return l.write(hourstable.LoggedCall{Ticket: ticket, Call: hourstable.CallOpen, Life: last}, nil)
 }
 
 // close destroys the slicelet. Nothing is released.
@@ -76,172 +74,178 @@ func (l *leases) sample(made answer) error {
 		return err
 	}
 	l.sampled = true
-	members := map[string]any{"task": l.task, "sent": made.sent, "reading": *made.reading, "now": now}
-	line, err := l.line("sample", "sampled", members)
+	ticket, err := l.ticket(true)
 	if err != nil {
 		return err
 	}
-	l.log.append(l.part, line)
+	return l.write(hourstable.LoggedCall{
+		Ticket: ticket, Call: hourstable.CallSample, Sent: made.sent, Reading: *made.reading, At: now,
+	}, nil)
+}
+
+// ticket draws the ticket of a call that is logged; it is 0 if none is.
+func (l *leases) ticket(isLogged bool) (uint64, error) {
+	if !isLogged || l.log == nil {
+		return 0, nil
+	}
+	return l.tickets.draw()
+}
+
+// write writes the line of a call of this task.
+func (l *leases) write(call hourstable.LoggedCall, message []byte) error {
+	if l.log == nil {
+		return nil
+	}
+	call.Task = l.task
+	line, err := hourstable.LogLine(l.job, call, message)
+	if err != nil {
+		return err
+	}
+	l.append(line)
 	return nil
 }
 
-// line returns the line of a call that reads no clock of the task.
-func (l *leases) line(do, reply string, members map[string]any) ([]byte, error) {
-	if l.log == nil {
-		return nil, nil
+// append writes a line of the library, which has its line feed; none for an empty one.
+func (l *leases) append(line []byte) {
+	if len(line) > 0 {
+		l.log.append(l.part, line[:len(line)-1])
 	}
-	ticket, err := l.tickets.draw()
-	if err != nil {
-		return nil, err
-	}
-	return lineOf(ticket, do, reply, members)
 }
 
-func lineOf(ticket uint64, do, reply string, members map[string]any) ([]byte, error) {
-	members["ticket"], members["do"], members["reply"] = ticket, do, reply
-	return json.Marshal(members)
-}
-
-// call makes a call that changes the slicelet at the reading of now, and logs it.
-func (l *leases) call(do string, members map[string]any, ask func(at uint64) (string, error)) error {
+// call makes a call that changes the slicelet at the reading of now, and logs it with the
+// message that it made, if the slicelet was asked.
+func (l *leases) call(call hourstable.LoggedCall, ask func(at uint64) ([]byte, error)) error {
 	l.mutex.Lock()
 	defer l.mutex.Unlock()
-	line, err := l.ask(do, members, ask)
-	if line != nil {
-		l.log.append(l.part, line)
+	var err error
+	if call.Ticket, err = l.ticket(true); err != nil {
+		return err
+	}
+	if call.At, err = l.read(); err != nil {
+		return err
+	}
+	made, err := ask(call.At)
+	if err != nil && !isRefused(err) {
+		return err
+	}
+	call.Err = err
+	if failed := l.write(call, made); failed != nil {
+		return failed
 	}
 	return err
 }
 
-// ask makes a call of the slicelet at the reading of now. It returns its line too, if
-// there are members and a log, and the machine was asked.
-func (l *leases) ask(
-	do string, members map[string]any, ask func(at uint64) (string, error),
-) (line []byte, err error) {
-	var ticket uint64
-	isLogged := members != nil && l.log != nil
-	if isLogged {
-		if ticket, err = l.tickets.draw(); err != nil {
-			return nil, err
-		}
-	}
-	at, err := l.read()
-	if err != nil {
-		return nil, err
-	}
-	reply, err := ask(at)
+// isRefused says whether a slicelet or a clock was asked and refused a call.
+func isRefused(err error) bool {
 	var refused *hourstable.Refused
-	if errors.As(err, &refused) && refused.Code > 0 {
-		reply = toldRefusal(do, refused)
-	} else if err != nil {
-		return nil, err
-	}
-	if !isLogged {
-		return nil, err
-	}
-	members["task"], members["at"] = l.task, at
-	line, failed := lineOf(ticket, do, reply, members)
-	if failed != nil {
-		return nil, failed
-	}
-	return line, err
+	return errors.As(err, &refused) && refused.Code > 0
 }
 
 func (l *leases) start() error {
-	return l.call("start", map[string]any{"life": l.life}, func(at uint64) (string, error) {
+	call := hourstable.LoggedCall{Call: hourstable.CallStart, Life: l.life}
+	return l.call(call, func(at uint64) ([]byte, error) {
 		err := l.slicelet.Start(l.life, at)
 		l.started = l.started || err == nil
-		return fmt.Sprintf("started %d", l.life), err
+		return nil, err
 	})
 }
 
-// hear hears a grant, given as its message.
-func (l *leases) hear(message []byte) (hourstable.Grant, error) {
-	grant, err := hourstable.ReadGrant(l.job, message)
+// hear hears a grant, given as its message and as what it says, unless it shows that
+// clocks are not timely: then it returns false.
+func (l *leases) hear(message []byte, grant hourstable.Grant, policy hourstable.Policy) (bool, error) {
+	l.mutex.Lock()
+	defer l.mutex.Unlock()
+	ticket, err := l.ticket(true)
 	if err != nil {
-		return grant, err
+		return false, err
 	}
-	value, err := valueOf(message)
+	receipt := hourstable.Receipt{Ticket: ticket}
+	if l.log != nil {
+		receipt.Line = make([]byte, 0, hourstable.LineRoom+len(message))
+	}
+	err = l.slicelet.Receive(l.clock, l.local, policy, message, &receipt)
+	l.append(receipt.Line)
 	if err != nil {
-		return grant, err
+		return false, l.behind(err, receipt.Called)
 	}
-	return grant, l.call("hear", map[string]any{"grant": value}, func(at uint64) (string, error) {
-		err := l.slicelet.Hear(message, at)
-		if err == nil {
-			l.held[grant.Kind] = grant
-		}
-		return fmt.Sprintf("heard %d", grant.Number), err
-	})
+	if !receipt.Evidence {
+		l.held[grant.Kind] = grant
+	}
+	return !receipt.Evidence, nil
+}
+
+// behind returns the error of a call: ErrClockBehind if the clock refused, so that the
+// call was not made.
+func (l *leases) behind(err error, isCalled bool) error {
+	var refused *hourstable.Refused
+	if !isCalled && errors.As(err, &refused) && refused.Code > 0 {
+		return fmt.Errorf("%w: %s", ErrClockBehind, refused.Reply())
+	}
+	return err
 }
 
 // release gives up the lease of a kind, and returns the message of its note.
 func (l *leases) release(kind hourstable.Kind) (note []byte, err error) {
-	err = l.call("release", map[string]any{"kind": kind.String()}, func(at uint64) (string, error) {
+	call := hourstable.LoggedCall{Call: hourstable.CallRelease, Kind: kind}
+	err = l.call(call, func(at uint64) ([]byte, error) {
 		if note, err = l.slicelet.Release(kind, at); err != nil {
-			return "", err
+			return nil, err
 		}
 		delete(l.held, kind)
-		var told struct {
-			Value struct {
-				Life   json.Number
-				Number string
-			}
-		}
-		err := json.Unmarshal(note, &told)
-		return fmt.Sprintf("released life %s number %s", told.Value.Life, told.Value.Number), err
+		return note, nil
 	})
 	return note, err
 }
 
-// enter asks whether the task may serve the slice key of a lease, and takes a handle
-// on it.
-func (l *leases) enter(lease *Lease) error {
-	lines, err := l.questions(lease)
-	l.log.append(l.part, lines...)
-	return err
-}
+// blocks are those of calls that are logged, and unlogged those of calls that are not. They
+// are used again, with the room for their lines.
+var (
+	blocks   = sync.Pool{New: func() any { return &hourstable.Block{Line: make([]byte, 0, hourstable.LineRoom)} }}
+	unlogged = sync.Pool{New: func() any { return &hourstable.Block{} }}
+)
 
-// questions asks what enter does, and returns the lines of both calls.
-func (l *leases) questions(lease *Lease) (lines [][]byte, err error) {
-	l.mutex.RLock()
-	defer l.mutex.RUnlock()
-	line, err := l.ask("serve", lease.members("slice_key", lease.sliceKey), func(at uint64) (string, error) {
-		served, err := l.slicelet.ServeAt(lease.sliceKey, at)
-		lease.Kind, lease.Generation = served.Kind, served.Generation
-		return fmt.Sprintf("served %s %d", served.Kind, served.Generation), err
+// enter asks whether the task may serve the slice key of a lease, and takes a handle on
+// it.
+func (l *leases) enter(lease *Lease) error {
+	return l.ask(lease, func(block *hourstable.Block) error {
+		err := l.slicelet.EnterAt(l.clock, l.local, lease.sliceKey, block)
+		lease.Kind, lease.Generation, lease.handle = block.Lease.Kind, block.Lease.Generation, block.Handle
+		return err
 	})
-	if line != nil {
-		lines = append(lines, line)
-	}
-	if err != nil {
-		return lines, err
-	}
-	line, err = l.ask("hold", lease.members("slice_key", lease.sliceKey), func(at uint64) (string, error) {
-		handle, err := l.slicelet.HoldAt(lease.sliceKey, at)
-		lease.handle = handle
-		return fmt.Sprintf("handle life %d position %d", handle.Life, handle.Position), err
-	})
-	if line != nil {
-		lines = append(lines, line)
-	}
-	return lines, err
 }
 
 // check returns nil if the task has held the key of a lease without a break.
 func (l *leases) check(lease *Lease) error {
-	handle := lease.handle
-	value := map[string]any{
-		"task": handle.Task, "slice_key": handle.SliceKey, "position": handle.Position, "life": handle.Life,
-	}
-	l.mutex.RLock()
-	line, err := l.ask("check", lease.members("handle", value), func(at uint64) (string, error) {
-		return "continuous", l.slicelet.Check(handle, at)
+	return l.ask(lease, func(block *hourstable.Block) error {
+		block.Handle = lease.handle
+		return l.slicelet.Leave(l.clock, l.local, block)
 	})
-	l.mutex.RUnlock()
-	if line != nil {
-		l.log.append(l.part, line)
+}
+
+// ask makes a call of a block, beside others, and writes its line.
+func (l *leases) ask(lease *Lease, call func(*hourstable.Block) error) error {
+	pool := &unlogged
+	if lease.isLogged && l.log != nil {
+		pool = &blocks
 	}
+	block := pool.Get().(*hourstable.Block)
+	defer pool.Put(block)
+	err := l.askOnce(block, lease.isLogged, call)
+	l.append(block.Line)
 	return err
+}
+
+func (l *leases) askOnce(block *hourstable.Block, isLogged bool, call func(*hourstable.Block) error) (err error) {
+	l.mutex.RLock()
+	defer l.mutex.RUnlock()
+	block.Called, block.Line = false, block.Line[:0]
+	if block.Ticket, err = l.ticket(isLogged); err != nil {
+		return err
+	}
+	if err = call(block); err != nil {
+		return l.behind(err, block.Called)
+	}
+	return nil
 }
 
 // lease returns the lease of a kind that is held.
@@ -289,11 +293,4 @@ func (l *leases) state() (started, sampled bool) {
 	l.mutex.RLock()
 	defer l.mutex.RUnlock()
 	return l.started, l.sampled
-}
-
-// valueOf returns the value of a message, which is what a line that delivers it has.
-func valueOf(message []byte) (json.RawMessage, error) {
-	var told struct{ Value json.RawMessage }
-	err := json.Unmarshal(message, &told)
-	return told.Value, err
 }

@@ -9,8 +9,6 @@ import (
 	"path/filepath"
 	"sync"
 	"time"
-
-	"hourstable"
 )
 
 // errOtherJob says that a log is that of a job with another policy.
@@ -402,16 +400,4 @@ func (l *callLog) close() {
 		l.file.Close()
 	}
 	l.file, l.isClosed = nil, true
-}
-
-// toldRefusal returns the reply of a call that is not done: a key is denied, a
-// handle is broken, and any other call is refused.
-func toldRefusal(do string, refused *hourstable.Refused) string {
-	switch {
-	case refused.Code == hourstable.ErrBroken:
-		return refused.Reply()
-	case do == "serve" || do == "hold":
-		return "denied " + refused.Reply()
-	}
-	return "refused " + refused.Reply()
 }

@@ -4,6 +4,7 @@ import (
 	"context"
 	"encoding/json"
 	"errors"
+	"fmt"
 	"os"
 	"path/filepath"
 	"strings"
@@ -247,8 +248,8 @@ func TestAThinnedLog(t *testing.T) {
 		case 1:
 			least, most = 200, 200
 		}
-		answers := counts["serve"]
-		if answers < least || answers > most || counts["hold"] != answers || counts["check"] != answers {
+		answers := counts["hold"]
+		if answers < least || answers > most || counts["check"] != answers || counts["serve"] != 0 {
 			t.Errorf("%v: %v", part, counts)
 		}
 	}
@@ -353,11 +354,7 @@ func TestLogs(t *testing.T) {
 			t.Fatal(err)
 		}
 		defer log.close()
-		line, err := lineOf(ticket, "start", "started 1", map[string]any{"at": 7})
-		if err != nil {
-			t.Fatal(err)
-		}
-		log.append(log.open(), line)
+		log.append(log.open(), []byte(fmt.Sprintf(`{"at":7,"do":"start","reply":"started 1","ticket":%d}`, ticket)))
 	}
 	holds := func(wanted string) {
 		t.Helper()

@@ -160,17 +160,20 @@ func (t *Task) hear(held *leases, made answer) (time.Duration, error) {
 	if made.status == http.StatusConflict {
 		return t.refused(made.body), nil
 	}
-	if err := t.stopAtEvidence(held, made.body); err != nil {
-		return 0, err
-	}
-	grant, err := held.hear(made.body)
-	var refused *hourstable.Refused
-	if errors.As(err, &refused) && refused.Code > 0 {
-		t.config.Logger.Info("a grant was not heard", "why", refused.Reply())
-		return 100 * time.Millisecond, nil
-	}
+	grant, err := grantOf(t.config.Job, made.body)
 	if err != nil {
 		return 0, err
+	}
+	isHeard, err := held.hear(made.body, grant, t.policy)
+	var refused *hourstable.Refused
+	switch {
+	case errors.As(err, &refused):
+		t.config.Logger.Info("a grant was not heard", "why", refused.Reply())
+		return 100 * time.Millisecond, nil
+	case err != nil:
+		return 0, err
+	case !isHeard:
+		return 0, t.stopAtEvidence(held)
 	}
 	return 0, t.heard(held, grant)
 }
@@ -184,7 +187,7 @@ func (t *Task) isGrant(made answer, held *leases) error {
 		}
 		return nil
 	}
-	grant, err := hourstable.ReadGrant(t.config.Job, made.body)
+	grant, err := grantOf(t.config.Job, made.body)
 	if err == nil && (grant.Task != t.config.Task || grant.Life != uint64(held.life)) {
 		err = fmt.Errorf("the grant is of task %d in life %d", grant.Task, grant.Life)
 	}

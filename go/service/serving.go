@@ -22,14 +22,6 @@ type Lease struct {
 	task     *Task
 }
 
-// members returns those of the line of a call, nil if it has none.
-func (l *Lease) members(name string, value any) map[string]any {
-	if !l.isLogged {
-		return nil
-	}
-	return map[string]any{name: value}
-}
-
 // Check returns ErrLeaseLost unless the task has held the key since the answer was
 // begun, and still does. Call it just before each write that others see.
 func (l *Lease) Check() error {
