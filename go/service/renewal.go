@@ -167,6 +167,10 @@ func (t *Task) hear(held *leases, made answer) (time.Duration, error) {
 	isHeard, err := held.hear(made.body, grant, t.policy)
 	var refused *hourstable.Refused
 	switch {
+	case errors.Is(err, hourstable.ErrTooLate) && len(t.Served()) == 0:
+		// The table's clock stood still for longer than a lease, and this one's did not.
+		t.config.Logger.Info("another life begins: a grant was not heard", "why", "too-late")
+		return 100 * time.Millisecond, t.dropLife()
 	case errors.As(err, &refused):
 		t.config.Logger.Info("a grant was not heard", "why", refused.Reply())
 		return 100 * time.Millisecond, nil

@@ -10,6 +10,8 @@ import (
 	"sync/atomic"
 	"testing"
 	"time"
+
+	"hourstable"
 )
 
 // Answers that no right plane gives, as a plane with another secret, a proxy or a captive portal does.
@@ -100,6 +102,28 @@ func TestAWrongAnswerEndsNoTask(t *testing.T) {
 			task.renews(t)
 			eventually(t, "the task serves again", func() bool { return task.serves("hello") })
 		})
+	}
+}
+
+// No plane has the table for half a minute, in which the clock of a task goes on that waits for long.
+func TestATableWhoseClockStoodStill(t *testing.T) {
+	job := newJob(t, 1000)
+	plane := job.plane()
+	var passed atomic.Uint64
+	local := func() (uint64, error) {
+		now, err := hourstable.LocalTicks()
+		return now + passed.Load(), err
+	}
+	task := runs(t, TaskConfig{Control: []string{plane.URL}, Oldest: 60_000, local: local})
+	eventually(t, "the task serves", func() bool { return task.serves("hello") })
+	plane.fail(always(wrongAnswers["500"]))
+	passed.Store(30_000)
+	eventually(t, "the lease has ended", func() bool { return !task.serves("hello") })
+	plane.fail(nil)
+	begun := time.Now()
+	eventually(t, "the task serves again", func() bool { return task.serves("hello") })
+	if took := time.Since(begun); took > 15*time.Second {
+		t.Error(took)
 	}
 }
 

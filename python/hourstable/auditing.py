@@ -85,7 +85,7 @@ class Audit:
         lack something. With `keep`, if all of it is one run, it saves the state up to the last days, as many as are
         kept, and removes the files that end before them."""
         above, begins = self._audited()
-        verdict = self._judged([*self._options, *begins], above, LAST)
+        verdict = self.judged([*self._options, *begins], above, LAST)
         status = self._tell(verdict, gaps_of(self.folder, above))
         if keep is not None and verdict.is_one and status == 0:
             self._save(keep, above, begins)
@@ -97,7 +97,7 @@ class Audit:
         print(said, *(f"gap {gap}\n" for gap in gaps), sep="", end="", flush=True)
         return verdict.status or int(bool(gaps))
 
-    def _judged(self, options: Sequence[str], above: int, below: int) -> Verdict:
+    def judged(self, options: Sequence[str], above: int, below: int) -> Verdict:
         """Hands the calls whose tickets are from one on and below another to the program."""
         with tempfile.TemporaryDirectory(prefix="hourstable-audit.") as laid:
             paths = logs.lay_out(self.folder, laid, above, below)
@@ -127,7 +127,7 @@ class Audit:
         if not old or below <= above:
             return
         state = self.folder / f"audited.{below}.state"
-        verdict = self._judged([*begins, "--until", str(state.absolute())], above, below)
+        verdict = self.judged([*begins, "--until", str(state.absolute())], above, below)
         if not verdict.is_one:
             print(f"the calls before ticket {below} alone are not one run, so no file is removed")
             return

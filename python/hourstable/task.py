@@ -570,6 +570,9 @@ class Task:
             if refused.code < 0:  # the message is none of a grant
                 self.metrics.wrong_answer(UNREADABLE)
             logger.info("task %d: a grant was not heard: %s", self.task, refused)
+            if refused.name == "TOO_LATE" and not self._served:
+                # The table's clock stood still for longer than a lease, and this one's did not.
+                self._drop_life()
             return 0.1
         self._heard(leases, told.lease.kind)
         return 0.0

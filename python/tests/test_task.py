@@ -54,6 +54,27 @@ async def test_numbers_that_are_those_of_others(given: dict[str, int], task_of: 
     await task.stop()
 
 
+async def test_a_table_whose_clock_stood_still_for_longer_than_a_lease(
+    plane: Plane, task_of: Callable[..., Task]
+) -> None:
+    """No plane had the table for half a minute, in which the clock of a task went on that waits for long."""
+    passed = [0]
+
+    async def fault(request: web.Request) -> web.StreamResponse | None:
+        return None if plane.fault is None else web.Response(status=503)
+
+    async with task_of(oldest=60_000, local_clock=lambda: boottime_ticks() + passed[0]) as task:
+        await until(lambda: task.served() == LOWER)
+        plane.fault = fault
+        passed[0] = 30_000
+        await until(lambda: task.served() == [])
+        plane.fault = None
+        begun = time.monotonic()
+        await until(lambda: task.served() == LOWER)
+        assert await ground(task, "hello") == ""
+    assert time.monotonic() - begun < 15
+
+
 async def until(holds: Callable[[], object], seconds: float = 20.0) -> None:
     end = time.monotonic() + seconds
     while not holds():

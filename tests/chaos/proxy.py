@@ -3,6 +3,8 @@
 It listens on a port for each link, and passes requests on. POST /settings at its own port changes
 how a link behaves: {"PORT": {"lose": P, "repeat": P, "delay": SECONDS, "cut": true}, ..}. An answer
 always belongs to its own request, as a transport gives it.
+
+A stream is a link of bytes, to a server of another protocol. While it is cut, what is sent on it is on its way.
 """
 
 import argparse
@@ -81,10 +83,45 @@ class Link:
         raise asyncio.CancelledError
 
 
-async def run(links: dict[str, str], port: int, seed: int) -> None:
-    random_ = random.Random(seed)
+class Stream:
+    """Where a port leads whose bytes are passed on as they are."""
+
+    def __init__(self, target: str) -> None:
+        self.host, _, self.port = target.rpartition(":")
+        self.settings: dict[str, Any] = {}
+
+    async def connected(self, reader: asyncio.StreamReader, writer: asyncio.StreamWriter) -> None:
+        """Serves a connection."""
+        await self.whole()
+        try:
+            there, back = await asyncio.open_connection(self.host, int(self.port))
+        except OSError:
+            writer.transport.abort()
+            return
+        both = [asyncio.create_task(self.pass_on(*way)) for way in ((reader, back), (there, writer))]
+        await asyncio.wait(both, return_when=asyncio.FIRST_COMPLETED)
+        for one in both:
+            one.cancel()
+        await asyncio.gather(*both, return_exceptions=True)
+        for end in (writer, back):
+            end.transport.abort()
+
+    async def pass_on(self, reader: asyncio.StreamReader, writer: asyncio.StreamWriter) -> None:
+        while piece := await reader.read(1 << 16):
+            await self.whole()
+            writer.write(piece)
+            await writer.drain()
+
+    async def whole(self) -> None:
+        """Returns when the stream is not cut."""
+        while self.settings.get("cut"):
+            await asyncio.sleep(0.02)
+
+
+async def run(words: argparse.Namespace) -> None:
+    random_ = random.Random(words.seed)
     limit = aiohttp.ClientTimeout(total=40)
-    made: dict[str, Link] = {}
+    made: dict[str, Link | Stream] = {}
 
     async def change(request: web.Request) -> web.Response:
         for name, settings in (await request.json()).items():
@@ -92,10 +129,13 @@ async def run(links: dict[str, str], port: int, seed: int) -> None:
         return web.json_response({})
 
     async with aiohttp.ClientSession(timeout=limit) as session:
-        for name, target in links.items():
-            made[name] = Link(target, session, random_)
-            await listen(int(name), made[name].handle, "/{path:.*}")
-        await listen(port, change, "/settings")
+        for name, target in json.loads(words.links).items():
+            link = made[name] = Link(target, session, random_)
+            await listen(int(name), link.handle, "/{path:.*}")
+        for name, target in json.loads(words.streams).items():
+            stream = made[name] = Stream(target)
+            await asyncio.start_server(stream.connected, "127.0.0.1", int(name))
+        await listen(words.port, change, "/settings")
         print("listening", flush=True)
         await asyncio.Event().wait()
 
@@ -111,10 +151,10 @@ async def listen(port: int, handler: Any, path: str) -> None:
 def main() -> None:
     parser = argparse.ArgumentParser(description="A proxy that delays, loses and repeats.")
     parser.add_argument("--links", required=True, help='{"PORT": "http://..", ..}')
+    parser.add_argument("--streams", default="{}", help='{"PORT": "HOST:PORT", ..}')
     parser.add_argument("--port", type=int, required=True, help="for settings")
     parser.add_argument("--seed", type=int, default=0)
-    words = parser.parse_args()
-    asyncio.run(run(json.loads(words.links), words.port, words.seed))
+    asyncio.run(run(parser.parse_args()))
 
 
 if __name__ == "__main__":

@@ -21,6 +21,7 @@ from typing import Any
 
 from aiohttp import web
 
+from hourstable.command import secrets_in
 from hourstable.demo.shelf import Session, Shelf, Taken
 from hourstable.library import slice_key
 from hourstable.ranges import Ranges, holds
@@ -156,6 +157,7 @@ async def run(words: argparse.Namespace) -> None:
         tickets=tickets_of(words, folder),
         drift=Drift(words.drift),
         oldest=words.oldest,
+        secret=secrets_in(words.secret_file)[0] if words.secret_file else None,
         patience=0.3,
         report=2.0,
         on_gain=lambda _: fail_at_times(words.fail),
@@ -206,6 +208,7 @@ def main() -> None:
     parser.add_argument("--oldest", type=int, help="ticks")
     parser.add_argument("--tickets", choices=["follow", "time"], default="follow")
     parser.add_argument("--work", type=float, default=0.0, help="milliseconds of a request")
+    parser.add_argument("--secret-file", help="the first line is the secret of the control planes")
     parser.add_argument("--fail", type=float, default=0.0, help="the part of callbacks that raise, for tests")
     words = parser.parse_args()
     logging.basicConfig(level=logging.INFO, format="%(asctime)s %(name)s %(message)s")

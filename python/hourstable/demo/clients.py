@@ -16,6 +16,7 @@ import aiohttp
 
 from hourstable.calls import Unreachable
 from hourstable.client import Again, NoOwner, Router
+from hourstable.command import secrets_in
 from hourstable.waiting import within
 
 
@@ -142,8 +143,9 @@ async def run(words: argparse.Namespace) -> None:
     stop = asyncio.Event()
     asyncio.get_running_loop().add_signal_handler(signal.SIGTERM, stop.set)
     logs = Path(words.folder) / "logs" if words.logs else None
+    secret = secrets_in(words.secret_file)[0] if words.secret_file else None
     async with Router(
-        words.control.split(","), words.job, logs=logs, clerk=words.number
+        words.control.split(","), words.job, logs=logs, clerk=words.number, secret=secret
     ) as router:
         clients = Clients(words, router)
         running = [asyncio.create_task(clients.client(it)) for it in range(words.clients)]
@@ -171,6 +173,7 @@ def main() -> None:
     parser.add_argument("--pause", type=float, default=5.0, help="milliseconds between requests")
     parser.add_argument("--every", type=float, default=1.0, help="seconds between two lines")
     parser.add_argument("--timeout", type=float, default=1.0, help="seconds")
+    parser.add_argument("--secret-file", help="the first line is the secret of the control planes")
     parser.add_argument("--logs", action="store_true", help="write the log of the clerk")
     words = parser.parse_args()
     logging.basicConfig(level=logging.INFO, format="%(asctime)s %(name)s %(message)s")
