@@ -1,8 +1,28 @@
 """What tasks and routers count, for Prometheus."""
 
 from collections import Counter as Counts
+from collections.abc import Callable, Iterator, Mapping
 
 from prometheus_client import CollectorRegistry, Counter, Gauge, generate_latest
+from prometheus_client.core import CounterMetricFamily
+from prometheus_client.registry import Collector
+
+
+class Totals(Collector):
+    """Counters that are plain numbers of their owner, and are read at a scrape: `told` returns each as its name, its
+    words, and what was counted by the values of its own labels, which `labels` names."""
+
+    Told = tuple[str, str, tuple[str, ...], Mapping[tuple[str, ...], float]]
+
+    def __init__(self, names: tuple[str, str], values: tuple[str, str], told: Callable[[], list[Told]]) -> None:
+        self._names, self._values, self._told = names, values, told
+
+    def collect(self) -> Iterator[CounterMetricFamily]:
+        for name, words, labels, counted in self._told():
+            family = CounterMetricFamily(f"hourstable_{name}", words, labels=[*self._names, *labels])
+            for values, count in counted.items():
+                family.add_metric([*self._values, *values], count)
+            yield family
 
 
 class CallerMetrics:
@@ -49,18 +69,25 @@ class Metrics(CallerMetrics):
     def __init__(self, job: str, task: int) -> None:
         super().__init__(("job", "task"), (job, str(task)))
         self.denials: Counts[str] = Counts()  # by the ground
-        self.requests = self._counter("requests", "Questions for a key.")
-        self.lost = self._counter("lease_lost", "Answers after the end of their lease.")
+        self.requests = 0  # questions for a key
+        self.lost = 0  # answers after the end of their lease
+        self.registry.register(Totals(self._names, self._values, self._totals))
         self.behind = self._counter("clock_behind", "Times that the clock stopped the task.")
         self.lives = self._counter("lives", "Lives that were begun.")
         self.left = self._gauge("calls_left", "Calls that the slicelet still accepts.")
         self.keys = self._gauge("served_share", "The part of all slice keys that it may serve.")
-        self._denied = self._labelled("denied", "Questions that were denied.", "ground")
         self._heard = self._labelled("heard", "Leases that were heard.", "kind")
 
     def denied(self, ground: str) -> None:
         self.denials[ground] += 1
-        self._denied.labels(*self._values, ground).inc()
+
+    def _totals(self) -> list[Totals.Told]:
+        denials: dict[tuple[str, ...], float] = {(ground,): count for ground, count in self.denials.items()}
+        return [
+            ("requests", "Questions for a key.", (), {(): self.requests}),
+            ("lease_lost", "Answers after the end of their lease.", (), {(): self.lost}),
+            ("denied", "Questions that were denied.", ("ground",), denials),
+        ]
 
     def heard(self, kind: str) -> None:
         self._heard.labels(*self._values, kind).inc()

@@ -60,6 +60,18 @@ class KeptLog:
             self._stop(why)
             self._miss(lines)
 
+    def append_line(self, line: bytes) -> None:
+        """Writes a line of the library, with its line feed, or leaves it out."""
+        log = self._log
+        if log is None or self._is_ready:
+            self._miss([line.decode()])
+            return
+        try:
+            log.append_line(line)
+        except (OSError, ValueError) as why:
+            self._stop(why)
+            self._miss([line.decode()])
+
     def lacking(self, lines: Sequence[str]) -> list[str]:
         """Returns those of the lines that are not in the log, as `Log.lacking` does, or all while it is stopped."""
         return list(lines) if self._log is None else self._log.lacking(lines)

@@ -8,18 +8,17 @@ ticket, never an older one.
 import json
 from collections.abc import Callable, Mapping
 from functools import partial
-from typing import Any, NamedTuple, TypeVar
+from typing import Any, NamedTuple, NoReturn, TypeVar
 
 from .kept_log import KeptLog
 from .library import KINDS as NUMBERS
-from .library import (
-    CALLS, KeyHandle, LoggedCall, Phase, Policy, Receipt, Refused, Served, Slicelet, TaskClock, log_line,
-)
+from .library import CALLS, Door, LoggedCall, Phase, Policy, Receipt, Refused, Slicelet, TaskClock, log_line
 from .logs import NoLog
 from .ranges import Ranges, minus, ranges_of, union
 from .tickets import Tickets
 
 Made = TypeVar("Made")
+Entered = tuple[int, int, int]  # the slice key and the position of a handle, and the generation of its lease
 KINDS = ("guard", "bridge")
 
 
@@ -80,6 +79,7 @@ class Leases:
         self._tickets, self._log = tickets, log
         self._receipt = Receipt()
         self._slicelet = Slicelet.resume(job, task, last)
+        self._door = Door(self._slicelet, clock, task, life)
         opened = LoggedCall(ticket=tickets.draw(), call=CALLS["open"], task=task, life=last)
         if log.is_kept:
             log.append(log_line(job, opened))
@@ -147,23 +147,37 @@ class Leases:
         self.held.pop(kind, None)
         return note
 
-    def serve(self, slice_key: int, is_logged: bool = True) -> Served:
-        """Asks whether the task may serve the keys of a slice key. Like the calls of a hold and of its checks, it may
-        be left out of the log: it changes nothing."""
-        return self._call(
-            "serve", lambda at: self._slicelet.serve_at(slice_key, at), is_logged=is_logged, slice_key=slice_key
-        )
+    def enter(self, key: bytes, is_logged: bool = True) -> Entered:
+        """Takes a handle on a key, by one call of the library. Like the calls of its checks, it may be left out of
+        the log: it changes nothing."""
+        door, is_logged = self._door, is_logged and self._log.is_kept
+        ticket = self._tickets.draw() if is_logged else 0
+        code = door.enter(self.local_clock(), ticket, key, is_logged)
+        if door.line:
+            self._log.append_line(door.line)
+        if code:
+            self._raise(code)
+        entry = door.entry
+        return entry.slice_key, entry.position, entry.generation
 
-    def hold(self, slice_key: int, is_logged: bool = True) -> KeyHandle:
-        """Takes a handle on the keys of a slice key."""
-        return self._call(
-            "hold", lambda at: self._slicelet.hold_at(slice_key, at), is_logged=is_logged, slice_key=slice_key
-        )
+    def check(self, entered: Entered, is_logged: bool = True) -> bool:
+        """Whether the task has held the key of a handle without a break since it was taken, and may serve it now. The
+        call is logged if the entry was."""
+        door, is_logged = self._door, is_logged and self._log.is_kept
+        ticket = self._tickets.draw() if is_logged else 0
+        code = door.leave(self.local_clock(), ticket, entered[0], entered[1], is_logged)
+        if door.line:
+            self._log.append_line(door.line)
+        if code == -1:
+            raise MemoryError("hourstable")
+        return code == 0
 
-    def check(self, handle: KeyHandle, is_logged: bool = True) -> None:
-        """Raises Refused unless the task has held the key of a handle without a break. It is logged if the hold
-        was."""
-        self._call("check", lambda at: self._slicelet.check(handle, at), is_logged=is_logged, handle=handle)
+    def _raise(self, code: int) -> NoReturn:
+        """Raises what the code of an entry means."""
+        refusal = self._door.refusal(code)
+        if self._door.is_called or code < 0:
+            raise refusal
+        raise ClockBehind(str(refusal)) from refusal
 
     def live(self, at: int) -> Ranges:
         """Returns the keys of the leases that have not ended at a reading."""
@@ -182,10 +196,10 @@ class Leases:
         return lost
 
     def _call(
-        self, do: str, ask: Callable[[int], Made], message: bytes = b"", is_logged: bool = True, **members: Any
+        self, do: str, ask: Callable[[int], Made], message: bytes = b"", **members: Any
     ) -> Made:
-        """Makes a call, and writes its line. A note and a handle that it made are in the line."""
-        if not (is_logged and self._log.is_kept):
+        """Makes a call, and writes its line. A note that it made is in the line."""
+        if not self._log.is_kept:
             return ask(self.read())
         call = LoggedCall(self._tickets.draw(), CALLS[do], task=self.task, **members)
         call.at = self.read()
@@ -196,8 +210,6 @@ class Leases:
             if refused.code > 0:  # otherwise the machine was not asked
                 self._write(call, message)
             raise
-        if isinstance(made, KeyHandle):
-            call.handle = made
         self._write(call, made if isinstance(made, bytes) else message)
         return made
 

@@ -542,7 +542,17 @@ def unchecked(name: str) -> Callable[..., int]:
     return function
 
 
+def bare(name: str) -> Callable[..., int]:
+    """Returns a function that takes values of ctypes alone, which cost no check, and that keeps the interpreter's
+    lock: the call takes about as long as giving the lock away would."""
+    function = held[f"hs_{name}"]
+    function.restype = ctypes.c_int32
+    return function
+
+
+held = ctypes.PyDLL(library._name)
 ENTER, ENTER_AT, LEAVE = map(unchecked, ("slicelet_enter", "slicelet_enter_at", "slicelet_leave"))
+BARE_ENTER, BARE_LEAVE = map(bare, ("slicelet_enter", "slicelet_leave"))
 LINE = 512  # bytes, in which a line of a block fits
 NO_CALL = MOST = (1 << 64) - 1  # NO_CALL is how long a line is of a call that was not made
 
@@ -902,6 +912,89 @@ class Slicelet(Standing):
         left = ctypes.c_uint64()
         self.do("calls_left", ctypes.byref(left))
         return left.value
+
+
+class _Entry(ctypes.Structure):
+    """A Block whose structs are laid out in it."""
+
+    _fields_ = [
+        *fields("ticket at task slice_key position"), ("life", ctypes.c_uint32),
+        *fields("number generation kind other until covering"),
+    ]
+    ticket: int
+    at: int
+    task: int
+    slice_key: int
+    position: int
+    life: int
+    number: int
+    generation: int
+    kind: int
+    other: int
+    until: int
+    covering: int
+
+    def told(self) -> Told:
+        return Told(self.number, self.generation, self.kind, self.other, self.until, self.covering)
+
+
+class Door:
+    """Blocks of work of a life that a slicelet started, by one clock, for a caller that has one for each request:
+    what a call passes is made once and used again, and numbers are not checked to fit. A call returns its code, and
+    holds the interpreter's lock.
+
+    `entry` has what the last call wrote, and `line` its line for the log with its line feed, empty if there is none;
+    `is_called` says whether it was made: if not, the clock refused.
+    """
+
+    def __init__(self, slicelet: Slicelet, clock: TaskClock, task: int, life: int) -> None:
+        self._task, self._life = task, life
+        self.entry, self.line, self.is_called = _Entry(), b"", False
+        self._now, self._length = ctypes.c_uint64(), ctypes.c_size_t()
+        self._needed, self._nothing = ctypes.c_size_t(), ctypes.c_size_t()
+        self._place, self._clock = ctypes.pointer(slicelet.standing()), ctypes.pointer(clock)
+        self._entry, self._at = ctypes.pointer(self.entry), ctypes.pointer(self._needed)
+        self._make_room(LINE)
+
+    def _make_room(self, length: int) -> None:
+        self._text: CType = ctypes.create_string_buffer(length)
+        self._size = ctypes.c_size_t(length)
+
+    def enter(self, now: int, ticket: int, key: bytes, logged: bool) -> int:
+        """Enters a block on a key, as `Slicelet.enter` does."""
+        self._now.value, self._length.value, self.entry.ticket, self._needed.value = now, len(key), ticket, NO_CALL
+        size = self._size if logged else self._nothing
+        code = BARE_ENTER(
+            self._place, self._clock, self._now, key, self._length, self._entry, self._text, size, self._at
+        )
+        return code if self._is_made(code) else self.enter(now, ticket, key, logged)
+
+    def leave(self, now: int, ticket: int, slice_key: int, position: int, logged: bool) -> int:
+        """Looks whether the key of a handle, which an entry took with this slice key and position, was held until
+        now, as `Slicelet.leave` does."""
+        entry = self.entry
+        self._now.value, entry.ticket, self._needed.value = now, ticket, NO_CALL
+        entry.task, entry.slice_key, entry.position, entry.life = self._task, slice_key, position, self._life
+        size = self._size if logged else self._nothing
+        code = BARE_LEAVE(self._place, self._clock, self._now, self._entry, self._text, size, self._at)
+        return code if self._is_made(code) else self.leave(now, ticket, slice_key, position, logged)
+
+    def _is_made(self, code: int) -> bool:
+        """Takes the line of a call. If it found no room, the call changed nothing, and is made again with more."""
+        length = self._needed.value
+        if code == -2:
+            self._make_room(length)
+            return False
+        self.is_called = code >= 0 and length != NO_CALL
+        text: bytes = self._text[:length] if self.is_called and length else b""
+        self.line = text
+        return True
+
+    def refusal(self, code: int) -> Refused:
+        """Returns the exception of a code that an entry returned. Raises MemoryError."""
+        if code == -1:
+            raise MemoryError("hourstable")
+        return Refused(code, carried_by(name_of(code), self.entry.told()))
 
 
 class Clerk(Standing):

@@ -120,13 +120,26 @@ class Log:
         """Writes lines, which the system has when this returns. Raises OSError, as of a full disk;
         the file then has none of them, and a line that they are missing, as far as there is room."""
         try:
-            day = self._today()
-            if day != self._day:
-                self._turn_to(day)
-            self._opened.append(_bytes_of(*lines))
+            self._write(_bytes_of(*lines))
         except OSError:
             self._tell_gap(lines)
             raise
+
+    def append_line(self, line: bytes) -> None:
+        """Writes a line of the library, with its line feed, as `append` does."""
+        try:
+            self._write(line)
+        except OSError:
+            self._tell_gap([line.decode().rstrip("\n")])
+            raise
+
+    def _write(self, data: bytes) -> None:
+        day = self._today()
+        if day != self._day:
+            self._turn_to(day)
+        if self._file is None:
+            raise ValueError(f"the log {self.name} is closed")
+        self._file.append(data)
 
     def lacking(self, lines: Sequence[str]) -> list[str]:
         """Returns those of the lines that are not in the two newest files. The lines are of calls that
@@ -141,12 +154,6 @@ class Log:
         if self._file is not None:
             self._file.close()
         self._file, self._day = None, ""
-
-    @property
-    def _opened(self) -> GrowingFile:
-        if self._file is None:
-            raise ValueError(f"the log {self.name} is closed")
-        return self._file
 
     def _tell_gap(self, lines: Sequence[str]) -> None:
         try:
@@ -200,6 +207,9 @@ class NoLog:
     is_kept = is_stopped = False
 
     def append(self, *lines: str) -> None:
+        """Does nothing."""
+
+    def append_line(self, line: bytes) -> None:
         """Does nothing."""
 
     def lacking(self, lines: Sequence[str]) -> list[str]:

@@ -32,15 +32,16 @@ class GrowingFile:
 
     def append(self, data: bytes) -> None:
         """Writes bytes at the end, or changes nothing: of what a failed write has left, the file is rid again."""
-        self.reserve(len(data) + SPARE)
+        if self.size + len(data) + SPARE > self._allocated:
+            self.reserve(len(data) + SPARE)
         self.append_spare(data)
 
     def append_spare(self, data: bytes) -> None:
         """Writes bytes at the end as `append` does, also into the room that `append` leaves free."""
-        rest = data
         try:
-            while rest:
-                rest = rest[self._system.write(self._file, rest):]
+            written = self._system.write(self._file, data)
+            while written < len(data):
+                written += self._system.write(self._file, data[written:])
         except OSError:
             self.cut(self.size)
             raise

@@ -17,9 +17,9 @@ import ssl
 import time
 from collections import Counter as Counts
 from collections import deque
-from collections.abc import AsyncIterator, Callable, Mapping, Sequence
-from contextlib import asynccontextmanager
+from collections.abc import Callable, Mapping, Sequence
 from functools import partial
+from types import TracebackType
 from typing import Any, NamedTuple, NoReturn
 
 from . import replies
@@ -28,8 +28,8 @@ from .calls import TIMEOUT, UNREADABLE, Control, Rejected, Troubles, Unreachable
 from .clock import local_clock as local_clock_of
 from .context import about
 from .kept_log import KeptLog
-from .leases import KINDS, ClockBehind, Leases, policy_of
-from .library import KeyHandle, Policy, Refused, TaskClock, ended_note, slice_key
+from .leases import KINDS, ClockBehind, Entered, Leases, policy_of
+from .library import Policy, Refused, TaskClock, ended_note, slice_key
 from .logs import TASKS, Log, NoLog, folder_of, job_line
 from .moves import Moves, OnGain, OnLose
 from .phases import Phases
@@ -48,6 +48,7 @@ __all__ = [
 GRAIN = 2
 LAST_CALLS = 64  # a slicelet that accepts no more calls than these is replaced
 LOAD_BITS = 10  # loads are reported for 1,024 parts of the slice keys
+LOAD_SHIFT = 63 - LOAD_BITS
 JITTER = 0.1  # of half a lease, by which a renewal comes earlier or later
 
 logger = logging.getLogger("hourstable.task")
@@ -85,42 +86,72 @@ class Renewed(NamedTuple):
     last: float | None
 
 
-class Lease:
-    """The right to a key, from the entry of a block of `Task.serving` on."""
+class Handle:
+    """What a task took on a key."""
 
-    def __init__(
-        self, task: "Task", key: str, slice_key: int, generation: int, is_logged: bool = True
-    ) -> None:
-        self.key, self.slice_key, self.generation = key, slice_key, generation
-        self._hold = task._hold(key, slice_key, is_logged)
+    __slots__ = ("_entered", "_is_logged", "_leases", "_task", "generation", "key", "slice_key")
+
+    def __init__(self, task: "Task", key: str, leases: Leases, entered: Entered, is_logged: bool = True) -> None:
+        self.key, self._task, self._leases = key, task, leases
+        self._entered, self._is_logged = entered, is_logged
+        self.slice_key, _, self.generation = entered
+
+    def _is_held(self) -> bool:
+        """Whether the task has held the key since the entry. A handle is of a life: another one has not given it."""
+        return self._task._leases is self._leases and self._leases.check(self._entered, self._is_logged)
+
+
+class Lease(Handle):
+    """The right to a key, from the entry of a block of `Task.serving` on, under a lease of a generation."""
+
+    __slots__ = ()
 
     def check(self) -> None:
         """Raises LeaseLost unless the task has held the key since the entry, and still does. Call
         it before each write that others see."""
-        if not self._hold.continuous():
+        if not self._is_held():
             raise LeaseLost(self.key)
 
 
-class Hold:
+class Hold(Handle):
     """A handle on a key, for work that takes a while."""
 
-    def __init__(
-        self, task: "Task", key: str, leases: Leases, handle: KeyHandle, is_logged: bool = True
-    ) -> None:
-        self.key = key
-        self._task, self._leases, self._handle = task, leases, handle
-        self._is_logged = is_logged
+    __slots__ = ()
 
     def continuous(self) -> bool:
         """Whether the task has held the key without a break since it took the handle, and may
         serve it now. The call is logged as a `check`, if the task logs the block of the handle."""
-        if self._task._leases is not self._leases:
-            return False  # another life, whose slicelet did not give the handle
+        return self._is_held()
+
+
+class Serving:
+    """A block of `Task.serving`."""
+
+    __slots__ = ("_key", "_lease", "_task")
+
+    def __init__(self, task: "Task", key: str) -> None:
+        self._task, self._key = task, key
+
+    async def __aenter__(self) -> Lease:
+        task = self._task
+        self._lease = lease = task._enter(self._key)
+        task._moves.enter(lease)
+        return lease
+
+    async def __aexit__(
+        self, kind: type[BaseException] | None, why: BaseException | None, trace: TracebackType | None
+    ) -> None:
+        task, lease = self._task, self._lease
         try:
-            self._leases.check(self._handle, self._is_logged)
-        except (Refused, ClockBehind):
-            return False
-        return True
+            if kind is None:
+                lease.check()
+            elif issubclass(kind, LeaseLost):
+                task.metrics.lost += 1
+        except LeaseLost:
+            task.metrics.lost += 1
+            raise
+        finally:
+            task._moves.leave(lease)
 
 
 class Task:
@@ -329,23 +360,14 @@ class Task:
 
     # What is asked for a key. -------------------------------------------------------------------
 
-    @asynccontextmanager
-    async def serving(self, key: str) -> AsyncIterator[Lease]:
-        """The right to a key, from the question at the entry to the end of the block.
+    def serving(self, key: str) -> Serving:
+        """The right to a key, from the question at the entry of an `async with` to the end of its block, which is a
+        Lease.
 
         Raises Denied at the entry, and LeaseLost at the end if the task did not hold the key all
         the time: then the block has no answer. A block that raises is not asked again.
         """
-        lease = self._enter(key)
-        self._moves.enter(lease)
-        try:
-            yield lease
-            lease.check()
-        except LeaseLost:
-            self.metrics.lost.inc()
-            raise
-        finally:
-            self._moves.leave(lease)
+        return Serving(self, key)
 
     def ask(self, key: str) -> Lease:
         """Asks for a key as the entry of a block of `serving` does, and returns the right to it.
@@ -354,7 +376,10 @@ class Task:
 
     def hold(self, key: str) -> Hold:
         """Takes a handle on a key, for work that takes a while. Raises Denied."""
-        return self._hold(key, slice_key(key.encode()))
+        leases = self._leases
+        if leases is None:
+            raise self._denied(key, "down")
+        return Hold(self, key, leases, self._asked(leases, key, key.encode(), True))
 
     def reading(self) -> int:
         """Returns the reading of the task's clock. Raises ClockBehind."""
@@ -367,27 +392,20 @@ class Task:
         return minus(self._served, self._moves.moving)
 
     def _enter(self, key: str) -> Lease:
-        self.metrics.requests.inc()
-        slice_key_ = slice_key(key.encode())
-        if holds(self._moves.moving, slice_key_):
+        self.metrics.requests += 1
+        leases, data = self._leases, key.encode()
+        if self._moves.moving and holds(self._moves.moving, slice_key(data)):
             raise self._denied(key, "moving")
-        if self._leases is None:
+        if leases is None:
             raise self._denied(key, "down")
         is_logged = self._sample >= 1 or self._random.random() < self._sample
-        try:
-            served = self._leases.serve(slice_key_, is_logged)
-        except Refused as refused:
-            raise self._denied(key, str(refused)) from refused
-        except ClockBehind as behind:
-            raise self._denied(key, "clock-behind") from behind
-        self._loads[slice_key_ >> (63 - LOAD_BITS)] += 1
-        return Lease(self, key, slice_key_, served.generation, is_logged)
+        entered = self._asked(leases, key, data, is_logged)
+        self._loads[entered[0] >> LOAD_SHIFT] += 1
+        return Lease(self, key, leases, entered, is_logged)
 
-    def _hold(self, key: str, slice_key_: int, is_logged: bool = True) -> Hold:
-        if self._leases is None:
-            raise self._denied(key, "down")
+    def _asked(self, leases: Leases, key: str, data: bytes, is_logged: bool) -> Entered:
         try:
-            return Hold(self, key, self._leases, self._leases.hold(slice_key_, is_logged), is_logged)
+            return leases.enter(data, is_logged)
         except Refused as refused:
             raise self._denied(key, str(refused)) from refused
         except ClockBehind as behind:

@@ -104,7 +104,9 @@ class Tickets:
         self._lock = threading.Lock()
         boot = system.boot() if boot is None else boot
         self._file = None if path is None else _Kept(Path(path), boot, system)
+        self._words = None if self._file is None else self._file.words
         self._last = 0 if self._file is None else self._file.last()
+        self._ceiling = 0  # above what may be drawn before a place above is kept
 
     def _real_milliseconds(self) -> int:
         return self._system.real_nanoseconds() // 1_000_000
@@ -113,17 +115,32 @@ class Tickets:
         """Returns a ticket above all that were drawn or observed before. Raises OverflowError if there is none below
         FARTHEST, and OSError if the file cannot be written."""
         with self._lock:
-            now = self._now()
-            if now >= FARTHEST:
-                self.left_out += 1
-                now = 0
-            place = max(self._last + 1, now << COUNTER_BITS)
-            if place >= FARTHEST << COUNTER_BITS:
-                raise OverflowError("no ticket is left")
-            if self._file is not None:
-                self._file.keep(place, self._ahead)
+            place = self._last + 1
+            if self._now is not follow:
+                place = max(place, self._place_of_now())
+            if place >= self._ceiling:
+                self._raise(place)
+            if self._words is not None:
+                self._words[LAST] = place
             self._last = place
             return place << PROCESS_BITS | self.process
+
+    def _place_of_now(self) -> int:
+        now = self._now()
+        if now < FARTHEST:
+            return now << COUNTER_BITS
+        self.left_out += 1
+        return 0
+
+    def _raise(self, place: int) -> None:
+        """Keeps a new place above one that is about to be drawn."""
+        if place >= FARTHEST << COUNTER_BITS:
+            raise OverflowError("no ticket is left")
+        if self._file is None:
+            self._ceiling = FARTHEST << COUNTER_BITS
+        else:
+            self._file.keep_above(place, self._ahead)
+            self._ceiling = min(self._file.fields.ceiling, FARTHEST << COUNTER_BITS)
 
     def observe(self, ticket: int) -> None:
         """Takes the ticket of a message that was received, before its effects draw one. One beyond FARTHEST is not
@@ -149,7 +166,7 @@ class Tickets:
         """Closes the file, so that another process may draw from it. A ticket drawn later is kept
         nowhere."""
         with self._lock:
-            file, self._file = self._file, None
+            file, self._file, self._words, self._ceiling = self._file, None, None, 0
             if file is not None:
                 file.close()
 
@@ -176,6 +193,9 @@ class _Fields(ctypes.Structure):
         ("ceiling", ctypes.c_uint64),  # above each place that was ever drawn; it is on the disk
         ("last", ctypes.c_uint64),  # drawn; it may be on no disk
     ]
+
+
+LAST = _Fields.last.offset // 8  # the word of `last`
 
 
 class _Kept:
@@ -205,6 +225,7 @@ class _Kept:
             raise ValueError(f"{self.path} is no file of tickets")
         self.memory = mmap.mmap(self.file, length)
         self.fields = _Fields.from_buffer(self.memory)
+        self.words = memoryview(self.memory).cast("Q")  # the same numbers, which are written faster so
         if found == 0 or not any(self.memory[:]):  # as a crash while it was made leaves it
             self.fields.magic = MAGIC
         elif self.fields.magic != MAGIC:
@@ -219,9 +240,9 @@ class _Kept:
         self.fields.boot = boot
         return int(self.fields.last)
 
-    def keep(self, place: int, ahead: int) -> None:
-        """Keeps a place that is about to be drawn, and if need be a new one above it. Raises OSError, and keeps
-        nothing, if that does not reach the disk."""
+    def keep_above(self, place: int, ahead: int) -> None:
+        """Keeps a new place above one that is about to be drawn, if need be. Raises OSError, and keeps nothing, if
+        that does not reach the disk."""
         before = self.fields.ceiling
         if place >= before:
             self.fields.ceiling = min(place + ahead + 1, PLACES)
@@ -230,9 +251,9 @@ class _Kept:
             except BaseException:
                 self.fields.ceiling = before
                 raise
-        self.fields.last = place
 
     def close(self) -> None:
+        self.words.release()
         del self.fields
         self.memory.close()
         self.system.close(self.file)

@@ -120,15 +120,14 @@ async def test_blocks_are_thinned_as_a_whole(tmp_path: Path, capfd: Said, sample
         async with Task(url, "shop", 1, sample=sample, **given) as task:  # type: ignore[arg-type]
             await serve(task, 100)
             denied = sum(task.metrics.denials.values()) - task.metrics.denials["down"]
-    found = [call["do"] for call in calls(tmp_path)]
-    blocks = found.count("serve"), found.count("hold"), found.count("check")
+    found = [f"{call['do']} {call['reply'].split(' ')[0]}" for call in calls(tmp_path)]
+    blocks = found.count("hold handle"), found.count("check continuous"), found.count("hold denied")
     if sample:
         # each block checks twice, and a denied question is a line of its own
-        assert 0 < blocks[1] < 100 and blocks[2] == 2 * blocks[1]
-        assert blocks[1] <= blocks[0] <= blocks[1] + denied
+        assert 0 < blocks[0] < 100 and blocks[1] == 2 * blocks[0] and blocks[2] <= denied
     else:
         assert blocks == (0, 0, 0)
-    assert {"open", "start", "hear", "release", "sample"} <= set(found)
+    assert {"open", "start", "hear", "release", "sample"} <= {it.split(" ")[0] for it in found}
     assert Audit(tmp_path / "logs/shop", str(program)).run() == 0
     assert capfd.readouterr().out.startswith("audit one\n")
 
@@ -207,7 +206,7 @@ async def test_logs_are_removed_after_an_audit(tmp_path: Path, capfd: Said) -> N
     assert main(["audit", str(folder)]) == 0
     # what is wrong now is found, and nothing is removed
     path = next(path for path in logs.files_of(folder) if path.name.startswith("task-1"))
-    path.write_text(path.read_text().replace('"reply":"served', '"reply":"denied', 1))
+    path.write_text(path.read_text().replace('"reply":"continuous', '"reply":"broken', 1))
     assert main(["audit", "--keep", "0", str(folder)]) == 1
     assert [path.name for path in logs.files_of(folder)] == left
 

@@ -107,9 +107,9 @@ async def test_keys_are_served_and_denied(
         assert await ground(task, "hello") == ""
         assert await ground(task, "abc") == "not-owned"
     log = calls(tmp_path)
-    assert log[:8] == [
-        "open: opened 0", "sample: sampled", "start: started 1", "hear: heard 1", "serve: served guard 1",
-        "hold: handle life 1 position 2", "check: continuous", "serve: denied not-owned 1",
+    assert log[:7] == [
+        "open: opened 0", "sample: sampled", "start: started 1", "hear: heard 1",
+        "hold: handle life 1 position 2", "check: continuous", "hold: denied not-owned 1",
     ]
     assert log[-1].startswith("release: released life 1 number ")
     assert plane.held(1) == []

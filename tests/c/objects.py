@@ -18,8 +18,8 @@ sys.path[:0] = ["python", "examples/python"]
 import handover  # noqa: E402
 from hourstable import library as hourstable  # noqa: E402
 from hourstable.library import (  # noqa: E402
-    CALLS, Block, Clerk, HeldLease, JobTerm, KeyHandle, LoadBook, LoadRecord, LoggedCall, Phase, PlanPolicy, Policy,
-    Receipt, Refused, Slicelet, Table, TableClock, TaskClock, Told, boottime_ticks, clock_evidence, log_line,
+    CALLS, Block, Clerk, Door, HeldLease, JobTerm, KeyHandle, LoadBook, LoadRecord, LoggedCall, Phase, PlanPolicy,
+    Policy, Receipt, Refused, Slicelet, Table, TableClock, TaskClock, Told, boottime_ticks, clock_evidence, log_line,
     new_assignment, read_assignment, read_grant, slice_key, slice_of,
 )
 
@@ -272,6 +272,39 @@ def check_refused_blocks(task: Slicelet) -> None:
         holds(block.line.endswith('"reply":"refused stranger","task":1,"ticket":2}'), f"a stranger: {block.line}")
 
 
+def check_door(logged: bool, room: int) -> None:
+    """Blocks through a door are those of Slicelet.enter and leave, by clocks of the same numbers."""
+    clock, block = TaskClock(0, 1, 0, oldest=500), Block()
+    with Slicelet("", 2) as task:
+        task.start(1, 5)
+        task.hear(GRANT.replace(b"9223372036854775808", b"4611686018427387904"), 6)
+        own = copy.copy(clock)
+        door = Door(task, own, 2, 1)
+        door._make_room(room)
+        for ticket, (do, now, key, _) in enumerate(BLOCK_STEPS, U64 - 20):
+            if do == "sample":
+                clock.sample(now, now + 6, now)
+                own.sample(now, now + 6, now)
+                continue
+            wanted, line = play_block(task, clock, block, do, now, ticket | 1, key, logged)
+            handle = block.handle
+            code = (
+                door.enter(now, ticket | 1, key, logged) if do == "enter"
+                else door.leave(now, ticket | 1, handle.slice_key, handle.position, logged)
+            )
+            what = f"{do} at {now} through a door"
+            holds((str(door.refusal(code)) if code else "") == wanted, f"{what} is {wanted}: {code}")
+            holds(door.is_called == block.is_called, f"{what} is a call as it is alone")
+            holds(door.line == (f"{line}\n".encode() if line else b""), f"{what} has the line {line}: {door.line!r}")
+            holds(numbers_of(own) == numbers_of(clock), f"{what} leaves the clock as it does alone")
+            entry = door.entry
+            if code == 0 and do == "enter":
+                holds((entry.slice_key, entry.position) == (handle.slice_key, handle.position), f"{what}: the handle")
+                holds(bytes(entry.told()) == bytes(block.told), f"{what} tells the lease")
+    holds(door.enter(2000, 7, b"hello", logged) == -18, "a door of a slicelet that is closed leads nowhere")
+    holds(not door.is_called and door.line == b"", "a closed door is no call")
+
+
 class Receiver:
     """A task that was started at 5, by a clock that is 6 ahead of the local one."""
 
@@ -485,6 +518,9 @@ check_replies()
 check_places()
 check_leases()
 check_blocks()
+for room in (1, 512):
+    check_door(True, room)
+check_door(False, 512)
 check_receipts(True)
 check_receipts(False)
 check_assignments()
