@@ -167,12 +167,11 @@ func (t *Task) hear(held *leases, made answer) (time.Duration, error) {
 	isHeard, err := held.hear(made.body, grant, t.policy)
 	var refused *hourstable.Refused
 	switch {
-	case errors.Is(err, hourstable.ErrTooLate) && len(t.Served()) == 0:
-		// The table's clock stood still for longer than a lease, and this one's did not.
-		t.config.Logger.Info("another life begins: a grant was not heard", "why", "too-late")
-		return 100 * time.Millisecond, t.dropLife()
 	case errors.As(err, &refused):
 		t.config.Logger.Info("a grant was not heard", "why", refused.Reply())
+		if errors.Is(err, hourstable.ErrTooLate) && len(t.Served()) == 0 {
+			return 100 * time.Millisecond, t.leaveBehind(held, grant.Ends)
+		}
 		return 100 * time.Millisecond, nil
 	case err != nil:
 		return 0, err
@@ -180,6 +179,17 @@ func (t *Task) hear(held *leases, made answer) (time.Duration, error) {
 		return 0, t.stopAtEvidence(held)
 	}
 	return 0, t.heard(held, grant)
+}
+
+// leaveBehind ends a life whose clock is so far ahead that it would hear no lease for
+// long, as after a time in which the table's clock stood still. The next life has a
+// clock of its own.
+func (t *Task) leaveBehind(held *leases, ends uint64) error {
+	at, err := held.read()
+	if err != nil || at <= ends+t.policy.Guard/5 {
+		return err
+	}
+	return t.dropLife()
 }
 
 // isGrant returns why an answer is none to a request for a grant.

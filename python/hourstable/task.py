@@ -589,11 +589,16 @@ class Task:
                 self.metrics.wrong_answer(UNREADABLE)
             logger.info("task %d: a grant was not heard: %s", self.task, refused)
             if refused.name == "TOO_LATE" and not self._served:
-                # The table's clock stood still for longer than a lease, and this one's did not.
-                self._drop_life()
+                self._leave_behind(leases, told.lease.until)
             return 0.1
         self._heard(leases, told.lease.kind)
         return 0.0
+
+    def _leave_behind(self, leases: Leases, until: int) -> None:
+        """Ends a life whose clock is so far ahead that it would hear no lease for long, as after a time in which the
+        table's clock stood still. The next life has a clock of its own."""
+        if leases.read() > until + int(1000 * self._most):
+            self._drop_life()
 
     def _refused(self, word: str) -> float:
         """Returns for how long to wait after the table refused a grant."""
