@@ -45,7 +45,7 @@ MUTANTS = (
     Mutant("ticket-before-claim", "jobs.py", (
         ("        self._waiting.append(Waiting(call, answer))\n",
          "        call.drawn = self.tickets.draw()\n        self._waiting.append(Waiting(call, answer))\n"),
-        ("            ticket = self.tickets.draw()  # after", "            ticket = call.drawn  # after"),
+        ("call.logged(self.tickets.draw(), at)  # after", "call.logged(call.drawn, at)  # after"),
     ), seeds="6"),
     Mutant("reading-before-ticket", "leases.py", ((
         "        call = LoggedCall(self._tickets.draw(), CALLS[do], task=self.task, **members)\n"
@@ -55,16 +55,15 @@ MUTANTS = (
         "        call.at = at\n",
     ),), why_not="tickets of tasks follow messages, and none comes in between"),
     Mutant("check-always", "task.py", ((
-        "        except (Refused, ClockBehind):\n            return False\n        return True\n",
-        "        except (Refused, ClockBehind):\n            return True\n        return True\n",
+        "self._task._leases is self._leases and self._leases.check(self._entered, self._is_logged)",
+        "self._leases.check(self._entered, self._is_logged) or True",
     ),), seeds="2"),
     Mutant("old-leases", "task.py", ((
-        "        if self._task._leases is not self._leases:\n            return False",
-        "        if False:\n            return False",
+        "return self._task._leases is self._leases and self._leases.check(", "return self._leases.check(",
     ),), why_not="a life lasts for thousands of calls"),
     Mutant("clock-behind", "leases.py", ((
-        "            return self.clock.read(self.local_clock())",
-        "            return self.clock.read(self.local_clock()) - 1500",
+        "        self.clock.sample(sent, reading, now)",
+        "        self.clock.sample(sent, max(0, reading - 1500), now)",
     ),), seeds="2"),
     Mutant("clock-stops-asleep", "clock.py", ((
         "    ticks = steady_ticks if system is SYSTEM else system.ticks",
@@ -104,7 +103,7 @@ MUTANTS = (
         ("            self._log.append(*lines)\n            held.line", "            held.line"),
     ), seeds="2"),
     Mutant("last-not-kept", "tickets.py", (
-        ("        self.fields.last = place\n", "        pass\n"),
+        ("                self._words[LAST] = place\n", "                pass\n"),
     ), why_not="a message that is read first has a later ticket"),
     Mutant("boot-not-compared", "tickets.py", (
         ("        if boot and boot == self.fields.boot and", "        if boot and"),

@@ -69,6 +69,9 @@ def use_a_life_twice() -> None:
         setattr(kind, "raise_life", same_life(getattr(kind, "raise_life")))
 
 
+ENDED, BROKEN = 3, 14  # codes of the header
+
+
 def commit_over_bridges() -> None:
     """The table commits although tasks hold bridge leases of an older generation."""
     from hourstable.library import Refused, Table, ended_note
@@ -94,43 +97,40 @@ def commit_over_bridges() -> None:
 
 def use_a_lease_past_its_end() -> None:
     """The task answers although its lease has ended."""
-    from hourstable.library import KeyHandle, Refused, Served, Slicelet
+    from hourstable.library import Door, Refused, slice_key
 
-    serve, hold, check = Slicelet.serve_at, Slicelet.hold_at, Slicelet.check
-    last: dict[str, Any] = {}
+    begin, enter, leave = Door.__init__, Door.enter, Door.leave
+    last: list[tuple[int, int]] = []  # the position of the last handle, and the generation of its lease
 
-    def serve_late(self: Any, slice_key: int, at: int) -> Served:
+    def begin_over(self: Any, slicelet: Any, *given: Any) -> None:
+        self.slicelet = slicelet
+        begin(self, slicelet, *given)
+
+    def enter_late(self: Any, now: int, ticket: int, key: bytes, logged: bool) -> int:
+        code = enter(self, now, ticket, key, logged)
+        if code == 0:
+            last[:] = [(self.entry.position, self.entry.generation)]
+        if code != ENDED or not last:
+            return code
+        self.entry.slice_key, (self.entry.position, self.entry.generation) = slice_key(key), last[0]
+        told = b"handle life %d position %d" % (self._life, self.entry.position)
+        self.line = self.line.replace(b"denied ended", told)
+        return 0
+
+    def leave_late(self: Any, now: int, ticket: int, slice_key: int, position: int, logged: bool) -> int:
+        code = leave(self, now, ticket, slice_key, position, logged)
+        if code != BROKEN:
+            return code
         try:
-            last["served"] = serve(self, slice_key, at)
-        except Refused as refused:
-            if refused.name != "ENDED" or "served" not in last:
-                raise
-        served: Served = last["served"]
-        return served
+            self.slicelet.serve_at(slice_key, self.entry.at)
+        except Refused as why:
+            if why.name == "ENDED":
+                self.line = self.line.replace(b'"reply":"broken"', b'"reply":"continuous"')
+                return 0
+        return code
 
-    def hold_late(self: Any, slice_key: int, at: int) -> KeyHandle:
-        try:
-            last["handle"] = hold(self, slice_key, at)
-        except Refused as refused:
-            if refused.name != "ENDED" or "handle" not in last:
-                raise
-        old = last["handle"]
-        return KeyHandle(old.task, slice_key, old.position, old.life)
-
-    def check_late(self: Any, handle: KeyHandle, at: int) -> None:
-        try:
-            check(self, handle, at)
-        except Refused as refused:
-            try:
-                serve(self, handle.slice_key, at)
-            except Refused as why:
-                if why.name == "ENDED":
-                    return
-            raise refused
-
-    setattr(Slicelet, "serve_at", serve_late)
-    setattr(Slicelet, "hold_at", hold_late)
-    setattr(Slicelet, "check", check_late)
+    for name, method in (("__init__", begin_over), ("enter", enter_late), ("leave", leave_late)):
+        setattr(Door, name, method)
 
 
 def _with(module: Any, name: str) -> list[type]:
