@@ -20,7 +20,7 @@ from .tickets import HEADER, Tickets
 from .transport import Fetched, Http, Transport
 from .waiting import unless, within
 
-READING = "Hourstable-Reading"
+READING, KEY = "Hourstable-Reading", "Hourstable-Key"
 TIMEOUT = 2.0  # seconds that a call may take
 WAIT = 30.0  # seconds that a waiting GET takes if nothing happens
 HEDGE = 1 / 3  # of its time, after which a call may be made at another plane as well
@@ -39,7 +39,16 @@ MEND = {
 }
 OTHER = "other"  # any other status
 T = TypeVar("T")
-Body = bytes | Mapping[str, object] | None
+
+
+class Keyed(NamedTuple):
+    """A message with the key of the life that sends it."""
+
+    message: bytes
+    key: str
+
+
+Body = bytes | Mapping[str, object] | Keyed | None
 
 
 class Unreachable(Exception):
@@ -222,7 +231,7 @@ class Control:
         self, reads: Callable[[Answer], T], method: str, path: str, body: Body, timeout: float | None
     ) -> Callable[[int], Coroutine[Any, Any, T]]:
         """Returns what makes a call at a plane, and notes how that ended."""
-        data = body if body is None or isinstance(body, bytes) else json.dumps(body).encode()
+        data = _packed(body)
 
         async def attempt(at: int) -> T:
             url = f"{self.planes.urls[at]}/jobs/{quote(self.job, safe='')}{path}"
@@ -242,7 +251,7 @@ class Control:
             self._troubles.note(url.partition("/jobs/")[0], why)
 
     async def _try(
-        self, at: int, method: str, url: str, body: bytes | None, timeout: float | None
+        self, at: int, method: str, url: str, body: bytes | Keyed | None, timeout: float | None
     ) -> Answer:
         sent, fetching = self.local_clock(), self._fetch(method, url, body)
         try:
@@ -258,8 +267,10 @@ class Control:
             self._note(url, Wrong(f"{url}: {why}", "ticket"))
         return _taken(url, status, headers, found, sent)
 
-    async def _fetch(self, method: str, url: str, body: bytes | None) -> Fetched:
+    async def _fetch(self, method: str, url: str, body: bytes | Keyed | None) -> Fetched:
         headers = {**self._headers, HEADER: str(self.tickets.draw())}
+        if isinstance(body, Keyed):
+            body, headers[KEY] = body
         return await self._transport.fetch(method, url, headers, body)
 
     async def close(self) -> None:
@@ -280,6 +291,12 @@ class Control:
         trace: TracebackType | None,
     ) -> None:
         await self.close()
+
+
+def _packed(body: Body) -> bytes | Keyed | None:
+    if body is None or isinstance(body, bytes | Keyed):
+        return body
+    return json.dumps(body).encode()
 
 
 def _read(reads: Callable[[Answer], T], answer: Answer, url: str) -> T:

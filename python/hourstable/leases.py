@@ -20,6 +20,7 @@ from .tickets import Tickets
 Made = TypeVar("Made")
 Entered = tuple[int, int, int]  # the slice key and the position of a handle, and the generation of its lease
 KINDS = ("guard", "bridge")
+QUESTIONS = {CALLS[name] for name in ("serve", "hold", "check")}  # which change nothing
 
 
 class ClockBehind(Exception):
@@ -214,5 +215,7 @@ class Leases:
         return made
 
     def _write(self, call: LoggedCall, message: bytes) -> None:
+        if call.call in QUESTIONS and not any(call.at < it.until for it in self.held.values()):
+            return  # another process of the task may have been let in, and logs its own
         call.told = self._slicelet.told
         self._log.append(log_line(self.job, call, message))

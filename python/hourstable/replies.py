@@ -11,18 +11,23 @@ from typing import Any, NamedTuple
 from .calls import Answer
 from .leases import Held, held_in, policy_of
 from .library import Phase, Table, read_assignment
+from .own_lives import Life
 
 LIVES = 1 << 32
+LONGEST = 1e9  # seconds for which a life may wait
 NUMBERS = 1 << 64
 Members = Mapping[str, Any]
 
 
 class Granted(NamedTuple):
-    """The answer to a call for a lease: the lease of its grant, or the word for why the table refused it."""
+    """The answer to a call for a lease: the lease of its grant, or the word for why it was refused. Where another
+    life of the task is let in, `admitted` says which, and `after` in how many seconds to ask again."""
 
     answer: Answer
     lease: Held | None
     refused: str
+    admitted: int = 0
+    after: float = 0.0
 
 
 def check_policy(job: str, members: Members) -> Members:
@@ -57,21 +62,28 @@ def phase_in(answer: Answer) -> Phase | None:
     return Phase(number(value["committed"]), 0 if pending is None else number(pending))
 
 
-def life_in(answer: Answer) -> tuple[int, int]:
-    """Returns the life that POST /jobs/J/tasks/T/life gives, and the one before it."""
+def life_in(answer: Answer) -> Life:
+    """Returns the life that POST /jobs/J/tasks/T/life gives."""
     value = answer.value()
     if answer.status == 409:
         raise ValueError(f"no life: {value}")
     life, last = number(value["life"]), number(value["last"])
     if not last < life < LIVES:
         raise ValueError(f"life {life} after {last}")
-    return life, last
+    key = value.get("key", "")
+    if not isinstance(key, str):
+        raise ValueError("a key is no text")
+    return Life(life, last, key)
 
 
 def granted(job: str, answer: Answer) -> Granted:
     """Returns what POST /jobs/J/grant answers."""
     if answer.status == 409:
-        return Granted(answer, None, refusal(answer.value()))
+        value = answer.value()
+        after = value.get("after", 0.0)
+        if isinstance(after, bool) or not isinstance(after, int | float) or not 0 <= after < LONGEST:
+            raise ValueError("after is no number of seconds")
+        return Granted(answer, None, refusal(value), number(value.get("admitted", 0)), float(after))
     if answer.reading is None:
         raise ValueError("a grant without a reading")
     return Granted(answer, held_in(job, answer.body), "")

@@ -16,10 +16,10 @@ from collections.abc import Mapping
 from dataclasses import dataclass, field
 from typing import Any, NamedTuple
 
+from hourstable.own_lives import OVERTAKEN, WAITING
 from hourstable.store import Damaged, Life
 
 VERSION = 1  # of the text; a newer one is refused
-WAITING, OVERTAKEN = "waiting", "overtaken"
 SECRET = 32  # bytes of the secret of a row
 ENDED = 1 << 32  # the number in the note of a life that has ended, which closes all of its rows
 
@@ -155,9 +155,11 @@ class Rights:
         """Raises WrongKey or NotAdmitted unless a life gets a lease at a reading. At the reading `ends` no lease of
         the task lasts any more."""
         task, life, seat = asked.task, asked.life, self.seat(asked.task)
+        if life < seat.life:
+            raise NotAdmitted(OVERTAKEN, seat.life)
         if asked.key and not self._is_key(task, life, asked.key):
             raise WrongKey(task, life)
-        if life < seat.life or (life == seat.life and seat.keyed is False and asked.key):
+        if life == seat.life and seat.keyed is False and asked.key:
             raise NotAdmitted(OVERTAKEN, seat.life)
         if life == seat.life and seat.keyed and not asked.key:
             raise WrongKey(task, life)

@@ -15,16 +15,18 @@ import logging
 import os
 import ssl
 import time
+import weakref
 from collections import Counter as Counts
 from collections import deque
 from collections.abc import Callable, Mapping, Sequence
 from functools import partial
+from pathlib import Path
 from types import TracebackType
 from typing import Any, NamedTuple, NoReturn
 
 from . import replies
 from .caller_metrics import Metrics
-from .calls import TIMEOUT, UNREADABLE, Control, Rejected, Troubles, Unreachable
+from .calls import TIMEOUT, UNREADABLE, Control, Keyed, Rejected, Troubles, Unreachable
 from .clock import local_clock as local_clock_of
 from .context import about
 from .kept_log import KeptLog
@@ -32,8 +34,10 @@ from .leases import KINDS, ClockBehind, Entered, Leases, policy_of
 from .library import Policy, Refused, TaskClock, ended_note, slice_key
 from .logs import TASKS, Log, NoLog, folder_of, job_line
 from .moves import Moves, OnGain, OnLose
+from .own_lives import OVERTAKEN, WAITING, Life, OwnLives
 from .phases import Phases
 from .ranges import KEYS, Ranges, holds, minus
+from .state import state_folder
 from .supervisor import Supervisor
 from .system import SYSTEM, System
 from .tickets import CALLERS, Tickets, follow, number_of_caller
@@ -42,7 +46,7 @@ from .waiting import Backoff, pause, within
 
 __all__ = [
     "ClockBehind", "ClockBroken", "Denied", "Drift", "Hold", "Lease", "LeaseLost", "Metrics", "OnGain", "OnLose",
-    "Rejected", "Renewed", "Task",
+    "Overtaken", "Rejected", "Renewed", "Task",
 ]
 
 GRAIN = 2
@@ -50,6 +54,7 @@ LAST_CALLS = 64  # a slicelet that accepts no more calls than these is replaced
 LOAD_BITS = 10  # loads are reported for 1,024 parts of the slice keys
 LOAD_SHIFT = 63 - LOAD_BITS
 JITTER = 0.1  # of half a lease, by which a renewal comes earlier or later
+LEAST_WAIT = 0.1  # seconds between two questions of a life that waits
 
 logger = logging.getLogger("hourstable.task")
 
@@ -72,6 +77,11 @@ class Denied(Exception):
 
 class LeaseLost(Exception):
     """The task lost the key between the question and the answer, so there is no answer."""
+
+
+class Overtaken(Exception):
+    """Another process of the task is let in, or an operator let this one in no more. It has ended: its supervisor may
+    start it again, and then it waits."""
 
 
 class ClockBroken(Exception):
@@ -159,6 +169,10 @@ class Task:
 
     `control` is the URL of a control plane, or of several. `logs` is the folder of logs, which has
     one for each job; the tickets of the task are kept there too. With None the task keeps neither.
+    `state` is the folder of its lock and its keys, with one for each job: by default $STATE_DIRECTORY, or
+    the one beside `logs` with the ending `.state`. While a process runs, no other one of its task starts with this
+    folder; one that is started again is let in at once. With neither folder it waits until the leases of the process
+    before have ended.
     `sample` is the part of blocks that are logged, each with all of its calls or with none; other
     calls are always logged. `keep_logs` is for how many days its files are kept. `policy` creates the job if it is
     not there, and is compared if it is. `process` is the number of the process for its tickets, 64 to 255, by default
@@ -174,7 +188,7 @@ class Task:
     changes nothing else.
 
     Raises ValueError if a number or the name of the job is outside its limits, and BlockingIOError if another process
-    draws its tickets.
+    has its lock, or draws its tickets.
 
     `transport` brings its requests to planes in place of HTTP by `tls`. `system` has its clocks but
     for `local_clock`, its chance and its files.
@@ -187,6 +201,7 @@ class Task:
         task: int,
         *,
         logs: str | os.PathLike[str] | None,
+        state: str | os.PathLike[str] | None = None,
         sample: float = 1.0,
         keep_logs: int | None = None,
         policy: Mapping[str, Any] | None = None,
@@ -214,7 +229,12 @@ class Task:
         self._system, self._random = system, system.random()
         self._folder = None if logs is None else folder_of(logs, job)
         self._sample, self._keep_logs = sample, keep_logs
-        self._tickets = tickets or self._tickets_of(process)
+        self._lives = OwnLives(self._state_of(state, logs), task, system)
+        try:
+            self._tickets = tickets or self._tickets_of(process)
+        except BaseException:
+            self._lives.close()
+            raise
         self._local_clock = local_clock or local_clock_of(system=system)
         name = f"task {task}"
         self._supervisor = Supervisor(
@@ -234,8 +254,9 @@ class Task:
         self._longest = 5 * TIMEOUT  # seconds between two calls that fail
         self._log: KeptLog | NoLog | None = None
         self._leases: Leases | None = None
-        self._dropped: list[int] = []  # lives whose leases are to be freed
-        self._late: deque[tuple[Leases, replies.Granted]] = deque()  # answers that came after the first one
+        self._next: Life | None = None  # a life that was drawn, and is not let in
+        self._dropped: list[tuple[int, str]] = []  # lives whose leases are to be freed, with their keys
+        self._late: deque[tuple[int, replies.Granted]] = deque()  # lives, and answers that came after the first one
         self._phases = Phases(self._control)
         self._renew_at = 0
         self._served: Ranges = []
@@ -243,9 +264,21 @@ class Task:
         self._loads: Counts[int] = Counts()
         self._loops: list[asyncio.Task[None]] = []
         self._answered = 0  # when a plane answered a call for a lease last, in ns of real time
-        self._is_cut_off = self._is_draining = False
+        self._is_cut_off = self._is_draining = self._is_waiting = self._is_forked = False
         self._over = asyncio.Event()
-        self._broken: ClockBroken | None = None
+        self._broken: ClockBroken | Overtaken | None = None
+        _running.add(self)
+
+    def _forked(self) -> None:
+        """In a child that was forked: it serves nothing, and the locks are those of its parent."""
+        self._leases, self._is_forked = None, True
+        self._lives.leave_to_parent()
+        self._tickets.leave_to_parent()
+
+    def _state_of(self, given: str | os.PathLike[str] | None, logs: str | os.PathLike[str] | None) -> Path | None:
+        if given is None and logs is None:
+            return None
+        return state_folder(given, logs if logs is not None else "logs") / self.job
 
     def _tickets_of(self, process: int | None) -> Tickets:
         number = number_of_caller(CALLERS.start + self.task - 1 if process is None else process)
@@ -276,13 +309,15 @@ class Task:
 
     @property
     def state(self) -> str:
-        """What the task does, in words: `starting` until its first lease, `serving`, `moving` while it gives keys
-        up, `cut off since` a real time if no plane has answered a call for a lease since then, `draining` while it is
-        drained or stopped, and `stopped`."""
-        if self._over.is_set():
+        """What the task does, in words: `starting` until its first lease, `waiting` while another process of the task
+        may have leases, `serving`, `moving` while it gives keys up, `cut off since` a real time if no plane has
+        answered a call for a lease since then, `draining` while it is drained or stopped, and `stopped`."""
+        if self._over.is_set() or self._is_forked:
             return "stopped"
         if self._is_draining:
             return "draining"
+        if self._is_waiting:
+            return "waiting"
         if not self.renewed.times:
             return "starting"
         if self._is_cut_off:
@@ -293,7 +328,7 @@ class Task:
     def is_ready(self) -> bool:
         """Whether requests may be sent to the task, for a readiness probe: from its first lease on, also while it is
         cut off, so that planes that are gone empty no load balancer; not while it is drained or has ended."""
-        return self.renewed.times > 0 and not (self._is_draining or self._over.is_set())
+        return self.renewed.times > 0 and self.state not in ("draining", "waiting", "stopped")
 
     def _log_of(self, job: str) -> KeptLog | NoLog:
         if self._folder is None:
@@ -303,7 +338,8 @@ class Task:
         return KeptLog(opens, f"task {self.task}", logger, self.metrics.log_missing.inc, system.monotonic)
 
     async def wait(self) -> None:
-        """Waits until the task has ended: by `stop`, or by what cannot mend itself, which it raises: ClockBroken."""
+        """Waits until the task has ended: by `stop`, or by what cannot mend itself, which it raises: ClockBroken or
+        Overtaken."""
         await self._over.wait()
         if self._broken is not None:
             raise self._broken
@@ -321,6 +357,8 @@ class Task:
             logger.warning("task %d ends with leases that were not freed: %s", self.task, why)
         except Exception as why:
             self._supervisor.caught("stop", why)
+        self._close_life()  # what it serves by ends before another process may have the lock
+        self._lives.close()
         await self._supervisor.close()
         await self._control.close()
         if self._log is not None:
@@ -446,8 +484,9 @@ class Task:
             except ClockBehind as behind:
                 self._note_behind(str(behind))
                 seconds = backoff.seconds()
-            except ClockBroken as broken:
+            except (ClockBroken, Overtaken) as broken:
                 self._broken = broken
+                self._close_life()
                 self._over.set()
                 return
             self._notice()
@@ -479,8 +518,7 @@ class Task:
         if self._leases is not None and self._leases.calls_left() < LAST_CALLS:
             await self._end_life()
         if self._leases is None:
-            self._leases = await self._begin_life()
-            self._free_dropped()
+            return await self._come_in()
         leases, phase = self._leases, self._phases.known
         if not leases.is_sampled():
             return await self._ask(leases)
@@ -503,16 +541,31 @@ class Task:
             return 0.0
         return await self._rest(leases, at, "bridge" if phase.proposed else "guard")
 
-    async def _begin_life(self) -> Leases:
-        """Begins a life that was never started, with a clock of its own."""
+    async def _come_in(self) -> float:
+        """Asks with a life that has not begun, and begins it once it is let in, so that a process that waits for
+        another one logs nothing."""
+        if self._next is None:
+            self._next = await self._control.read(replies.life_in, "POST", f"/tasks/{self.task}/life")
+            self._lives.draw(self._next)
+            self._is_draining = False  # the life before may have been drained
+        life = self._next
+        told = await self._asked(life.life)
+        if told.lease is None:
+            return self._refused(life.life, told)
+        leases = self._leases = self._begin(life)
+        self._lives.heard(life.life)
+        self._free_dropped()
+        return self._hear(leases, told)
+
+    def _begin(self, life: Life) -> Leases:
+        """Begins a life that is let in, with a clock of its own."""
         assert self._policy is not None and self._log is not None
-        life, last = await self._control.read(replies.life_in, "POST", f"/tasks/{self.task}/life")
+        self._next, self._is_waiting = None, False
         oldest = self._policy.guard * 9 // 10 if self._oldest is None else self._oldest
         clock = TaskClock(self._drift.extra, self._drift.per, GRAIN, oldest)
         self.metrics.lives.inc()
-        self._is_draining = False  # the life before may have been drained
         given = (clock, self._local_clock, self._tickets, self._log)
-        return Leases(self.job, self.task, life, last, *given)
+        return Leases(self.job, self.task, life.life, life.last, *given)
 
     async def _end_life(self) -> None:
         """Gives up all leases of the life, and ends it."""
@@ -538,38 +591,49 @@ class Task:
     def _drop_life(self) -> None:
         """Ends the life at once. What it may hold, also a lease that `held` lacks, is freed once the next one has
         begun, as the notes of a life that has ended."""
+        life = self._close_life()
+        if life:
+            self._dropped.append((life, self._lives.key_of(life)))
+
+    def _close_life(self) -> int:
+        """Closes the slicelet: nothing is served from then on. Returns the life, 0 if there is none."""
         leases, self._leases = self._leases, None
         self._moves.moving = []
-        if leases is not None:
-            self._notice()
-            leases.close()
-            self._dropped.append(leases.life)
+        if leases is None:
+            return 0
+        self._notice()
+        leases.close()
+        return leases.life
 
     def _free_dropped(self) -> None:
+        """Frees what lives may have that were dropped, once a later one is let in."""
         dropped, self._dropped = self._dropped, []
-        for life in dropped:
+        for life, key in dropped:
             for kind in KINDS:
                 note = ended_note(self.job, self.task, life, kind)
-                self._supervisor.spawn("free", self._free(note))
+                self._supervisor.spawn("free", self._free(note, key))
 
     async def _ask(self, leases: Leases) -> float:
         """Asks the table for a grant, and hears it."""
-        told = await self._control.first(
-            partial(replies.granted, self.job), partial(self._heard_late, leases),
-            "POST", "/grant", {"task": self.task, "life": leases.life},
-        )
-        return self._hear(leases, told)
+        return self._hear(leases, await self._asked(leases.life))
 
-    def _heard_late(self, leases: Leases, told: replies.Granted) -> None:
+    async def _asked(self, life: int) -> replies.Granted:
+        """Returns the answer to a life that asks for a lease."""
+        return await self._control.first(
+            partial(replies.granted, self.job), partial(self._heard_late, life),
+            "POST", "/grant", {"task": self.task, "life": life, **self._lives.asking(life)},
+        )
+
+    def _heard_late(self, life: int, told: replies.Granted) -> None:
         """Lets an answer be heard that came after another one: a note closes the rows up to its number alone."""
-        self._late.append((leases, told))
+        self._late.append((life, told))
         self._phases.changed.set()
 
     def _hear_late(self) -> None:
         while self._late:
-            leases, told = self._late.popleft()
-            if leases is self._leases and told.lease is not None:
-                self._hear(leases, told)
+            life, told = self._late.popleft()
+            if self._leases is not None and self._leases.life == life and told.lease is not None:
+                self._hear(self._leases, told)
 
     def _hear(self, leases: Leases, told: replies.Granted) -> float:
         """Hears a grant, or returns for how long to wait after it was refused."""
@@ -579,7 +643,7 @@ class Task:
         if not leases.started and leases.is_sampled():
             leases.start()
         if told.lease is None:
-            return self._refused(told.refused)
+            return self._refused(leases.life, told)
         assert self._policy is not None
         try:
             if not leases.hear(told.answer.body, told.lease, self._policy):
@@ -600,12 +664,31 @@ class Task:
         if leases.read() > until + int(1000 * self._most):
             self._drop_life()
 
-    def _refused(self, word: str) -> float:
-        """Returns for how long to wait after the table refused a grant."""
+    def _refused(self, life: int, told: replies.Granted) -> float:
+        """Returns for how long to wait after a grant was refused. Raises Overtaken."""
+        word = told.refused
+        if word in (WAITING, OVERTAKEN):
+            return self._not_let_in(life, told)
         if word == "no-assignment":
             return 0.5
         logger.warning("task %d: the table refused a grant: %s", self.task, word)
         return 2.0
+
+    def _not_let_in(self, life: int, told: replies.Granted) -> float:
+        """Returns for how long to wait while another life is let in, be it one of this process. Raises Overtaken if
+        it is one of a later process."""
+        if told.admitted > self._lives.greatest():
+            why = f"task {self.task}: life {told.admitted} of another process is let in, after {life}; this one ends"
+            logger.error(why)
+            raise Overtaken(why)
+        if told.refused == OVERTAKEN:
+            self._drop_life()
+            self._next = self._lives.drawn.get(told.admitted) if told.admitted != life else None
+            return 0.0
+        if not self._is_waiting:
+            logger.warning("task %d waits: life %d of another process is let in", self.task, told.admitted)
+        self._is_waiting = True
+        return max(LEAST_WAIT, told.after * (1 + JITTER * self._random.random()))
 
     def _heard(self, leases: Leases, kind: str) -> None:
         """Sets when the lease is renewed: at half of it, a little earlier or later."""
@@ -641,7 +724,7 @@ class Task:
                 self._moves.moving = []
         else:
             note = leases.release(kind)
-        freeing = self._free(note)
+        freeing = self._free(note, self._lives.key_of(leases.life))
         if is_last:
             await freeing
         else:
@@ -658,14 +741,15 @@ class Task:
         if late:
             logger.info("task %d gives up keys, and did not wait for %s", self.task, late)
 
-    async def _free(self, note: bytes) -> None:
-        """Brings a note to the table, as long as it may be of use."""
+    async def _free(self, note: bytes, key: str) -> None:
+        """Brings a note to the table, with the key of its life, as long as it may be of use."""
         assert self._policy is not None
+        body: bytes | Keyed = Keyed(note, key) if key else note
         backoff = Backoff(self._random.random, most=self._most)
         end = asyncio.get_running_loop().time() + self._policy.guard / 1000
         while asyncio.get_running_loop().time() < end:
             try:
-                await self._control.read(replies.freed_in, "POST", "/free", note)
+                await self._control.read(replies.freed_in, "POST", "/free", body)
                 return
             except Unreachable as why:
                 await asyncio.sleep(self._wait_after(why, backoff))
@@ -678,7 +762,8 @@ class Task:
         self._count_behind()
         for kind in KINDS:
             try:
-                self._supervisor.spawn("free", self._free(leases.release(kind)))
+                freeing = self._free(leases.release(kind), self._lives.key_of(leases.life))
+                self._supervisor.spawn("free", freeing)
             except (Refused, ClockBehind):
                 pass  # nothing of the kind is held
         self._notice()
@@ -729,6 +814,8 @@ class Task:
         }
         if self._leases is not None:
             told["calls_left"] = self._leases.calls_left()
+            key = self._lives.key_of(self._leases.life)
+            told |= {"life": self._leases.life, "key": key} if key else {}
         return told
 
     def _note_unreachable(self, why: Unreachable) -> None:
@@ -744,3 +831,14 @@ class Task:
     def _count_behind(self) -> None:
         self.clock_behind_total += 1
         self.metrics.behind.inc()
+
+
+_running: "weakref.WeakSet[Task]" = weakref.WeakSet()
+
+
+def _leave_to_parent() -> None:
+    for task in list(_running):
+        task._forked()
+
+
+os.register_at_fork(after_in_child=_leave_to_parent)

@@ -170,6 +170,12 @@ class Tickets:
             if file is not None:
                 file.close()
 
+    def leave_to_parent(self) -> None:
+        """Closes the file in a child that was forked: its lock is that of the parent, and would outlast it."""
+        file, self._file = self._file, None
+        if file is not None:
+            file.close()
+
 
 class NoTickets(Tickets):
     """The tickets of a process that logs nothing, and so has no number of its own: 0, which moves nobody's."""

@@ -313,10 +313,9 @@ async def test_notes_and_loads_need_the_key_of_their_life(file: Store, tmp_path:
         for key in ("", "0" * 64):
             assert (await unit.free(note_of(grant), key)).status == 403
         loads: dict[str, object] = {"task": 1, "loads": [], "life": life}
-        for wrong in list[dict[str, object]]([{}, {"key": "0" * 64}]):
-            assert (await caller.post("loads", {**loads, **wrong})).status == 403
-        right: dict[str, object] = {"key": unit.keys[life]}
-        assert (await caller.post("loads", {**loads, **right})).status == 204
+        for wrong in ("", "0" * 64):
+            assert (await caller.post("loads", {**loads, "key": wrong})).status == 403
+        assert (await caller.post("loads", {**loads, "key": unit.keys[life]})).status == 204
         assert (await unit.free(note_of(grant), unit.keys[life])).json == {"freed": 1}
 
 

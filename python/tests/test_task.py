@@ -218,7 +218,7 @@ async def test_an_answer_after_the_end_of_the_lease_is_none(
         with pytest.raises(LeaseLost):
             async with task.serving("hello"):
                 await asyncio.sleep(2.6)
-    assert calls(tmp_path, "check") == ["check: broken"]
+    assert calls(tmp_path, "check") == []  # another process may have been let in, and logs its own
 
 
 async def test_a_block_that_raises_is_not_asked_again(
@@ -274,7 +274,7 @@ async def test_a_clock_that_breaks_its_drift_ends_the_task(
     with pytest.raises(ClockBroken):
         await within(20.0, task.wait())
     assert task.clock_behind_total == 1
-    assert await ground(task, "hello") in ("no-lease", "not-owned")
+    assert await ground(task, "hello") == "down"
     await task.stop()
     assert any(it.startswith("release: released life 1") for it in calls(tmp_path, "release"))
 
@@ -345,7 +345,7 @@ async def test_a_task_without_an_assignment_goes_on_asking(
     plane = await Plane(tmp_path / "other").start()
     async with Task(plane.url, JOB, 1, logs=tmp_path / "other", timeout=0.5) as task:
         await until(lambda: len(plane.asked) > 1)
-        assert await ground(task, "hello") == "no-lease"
+        assert await ground(task, "hello") == "down"
         plane.settle(1, TO_ONE_AND_TWO)
         await until(lambda: task.served() == LOWER)
     await plane.stop()
