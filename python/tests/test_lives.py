@@ -314,8 +314,8 @@ async def test_notes_and_loads_need_the_key_of_their_life(file: Store, tmp_path:
             assert (await unit.free(note_of(grant), key)).status == 403
         loads: dict[str, object] = {"task": 1, "loads": [], "life": life}
         for wrong in ("", "0" * 64):
-            assert (await caller.post("loads", {**loads, "key": wrong})).status == 403
-        assert (await caller.post("loads", {**loads, "key": unit.keys[life]})).status == 204
+            assert (await caller.post("loads", dict(loads, key=wrong))).status == 403
+        assert (await caller.post("loads", dict(loads, key=unit.keys[life]))).status == 204
         assert (await unit.free(note_of(grant), unit.keys[life])).json == {"freed": 1}
 
 

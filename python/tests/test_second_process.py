@@ -162,7 +162,9 @@ async def test_a_process_that_was_frozen_ends_once_another_one_is_let_in(
         assert second.said[-1] == "serves"
 
 
-async def test_the_lock_outlasts_what_it_serves_by(file: Store, tmp_path: Path) -> None:
+async def test_the_lock_outlasts_what_it_serves_by(
+    file: Store, tmp_path: Path, monkeypatch: pytest.MonkeyPatch
+) -> None:
     """With planes out of reach a lease cannot be freed: serving ends all the same before the lock does."""
     async with owned(file, tmp_path) as (plane, caller):
         task = task_of(caller.url, tmp_path)
@@ -177,7 +179,7 @@ async def test_the_lock_outlasts_what_it_serves_by(file: Store, tmp_path: Path) 
             serves.append(may_serve(task))
             freed()
 
-        task._lives.close = close  # type: ignore[method-assign]
+        monkeypatch.setattr(task._lives, "close", close)
         await task.stop()
         assert serves == [False]
         assert not may_serve(task)
