@@ -186,7 +186,8 @@ async def run_task(job: JobScene, number: int, service: Service) -> None:
     process.is_to_end = service.name in cluster.wrong_secrets
     secret = OTHER_SECRET if process.is_to_end else SECRET
     task = Task(
-        cluster.urls, job.name, number, logs=service.host.disk.folder, policy=cluster.policy(job),
+        cluster.urls, job.name, number, logs=service.host.disk.folder,
+        state=service.host.disk.folder / "state", policy=cluster.policy(job),
         on_lose=served.on_lose, on_gain=served.on_gain, secret=secret, timeout=2.0, report=REPORT,
         transport=transport_of(service), system=Machine(process),
     )

@@ -151,9 +151,9 @@ async def test_a_process_that_was_frozen_ends_once_another_one_is_let_in(
     async with owned(file, tmp_path) as (_, caller):
         first = unit_of(caller.url, "a")
         await first.says("serves")
-        first.process.send_signal(signal.SIGSTOP)
         second = unit_of(caller.url, "b")
         await second.says("waiting")
+        first.process.send_signal(signal.SIGSTOP)
         await second.says("serves")
         first.process.send_signal(signal.SIGCONT)
         await until(lambda: first.process.poll() is not None)
