@@ -158,7 +158,7 @@ class Run:
             "grown": well.grown, "died": [str(it) for it in self.world.died],
             "exited": [
                 str(it) for it in cluster.exits if not it.why.startswith(MAY_EXIT)
-                and not (wild and "ClockBroken" in it.why)
+                and not (wild and "ClockBroken" in it.why) and not (scene.seconds and "Overtaken" in it.why)
             ],
             "answered_500": cluster.failed, "denied": denied, "behind": [*self.behind, *well.behind],
         }
@@ -169,7 +169,7 @@ class Run:
             "probed": cluster.oracle.probed, "writes": cluster.engine.writes, "well": well.seconds,
             "operations": sum(map(len, cluster.shelf.history.values())),
             "denied": self.watch.worst(), "whole": scene.is_whole, "engine": scene.engine,
-            "is_audited": not (back or scene.seconds or self._has_lost()),
+            "is_audited": not (back or self._has_lost()),
             "is_timely": scene.has_timely_tickets, "lone_assigners": scene.lone_assigners,
         }
         made.wrong = {name: all_of for name, all_of in found.items() if all_of}
