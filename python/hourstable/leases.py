@@ -20,7 +20,6 @@ from .tickets import Tickets
 Made = TypeVar("Made")
 Entered = tuple[int, int, int]  # the slice key and the position of a handle, and the generation of its lease
 KINDS = ("guard", "bridge")
-QUESTIONS = {CALLS[name] for name in ("serve", "hold", "check")}  # which change nothing
 
 
 class ClockBehind(Exception):
@@ -154,7 +153,7 @@ class Leases:
         door, is_logged = self._door, is_logged and self._log.is_kept
         ticket = self._tickets.draw() if is_logged else 0
         code = door.enter(self.local_clock(), ticket, key, is_logged)
-        if door.line:
+        if door.line and (code == 0 or self._has_lease()):
             self._log.append_line(door.line)
         if code:
             self._raise(code)
@@ -167,11 +166,16 @@ class Leases:
         door, is_logged = self._door, is_logged and self._log.is_kept
         ticket = self._tickets.draw() if is_logged else 0
         code = door.leave(self.local_clock(), ticket, entered[0], entered[1], is_logged)
-        if door.line:
+        if door.line and (code == 0 or self._has_lease()):
             self._log.append_line(door.line)
         if code == -1:
             raise MemoryError("hourstable")
         return code == 0
+
+    def _has_lease(self) -> bool:
+        """Whether a lease had not ended at the last reading. Else another process of the task may have been let in,
+        which logs its own calls."""
+        return any(self.clock.given < lease.until for lease in self.held.values())
 
     def _raise(self, code: int) -> NoReturn:
         """Raises what the code of an entry means."""
@@ -215,7 +219,5 @@ class Leases:
         return made
 
     def _write(self, call: LoggedCall, message: bytes) -> None:
-        if call.call in QUESTIONS and not any(call.at < it.until for it in self.held.values()):
-            return  # another process of the task may have been let in, and logs its own
         call.told = self._slicelet.told
         self._log.append(log_line(self.job, call, message))

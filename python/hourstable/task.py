@@ -549,7 +549,7 @@ class Task:
             self._lives.draw(self._next)
             self._is_draining = False  # the life before may have been drained
         life = self._next
-        told = await self._asked(life.life)
+        told = await self._answer_to(life.life)
         if told.lease is None:
             return self._refused(life.life, told)
         leases = self._leases = self._begin(life)
@@ -615,9 +615,9 @@ class Task:
 
     async def _ask(self, leases: Leases) -> float:
         """Asks the table for a grant, and hears it."""
-        return self._hear(leases, await self._asked(leases.life))
+        return self._hear(leases, await self._answer_to(leases.life))
 
-    async def _asked(self, life: int) -> replies.Granted:
+    async def _answer_to(self, life: int) -> replies.Granted:
         """Returns the answer to a life that asks for a lease."""
         return await self._control.first(
             partial(replies.granted, self.job), partial(self._heard_late, life),

@@ -10,11 +10,16 @@ SECONDS = 600  # that it may take
 
 
 def gather(folder: Path, job: str) -> Path:
-    """Copies the logs of a job from the disks of all hosts into one folder."""
+    """Copies the logs of a job from the disks of all hosts into one folder. Two processes of one task have files of
+    one name on their hosts."""
     into = folder / "gathered" / job
     into.mkdir(parents=True, exist_ok=True)
     for path in sorted(folder.glob(f"10.*/{job}/*{logs.ENDING}")):
-        (into / path.name).write_bytes(path.read_bytes())
+        made = into / path.name
+        if made.exists():
+            name, _, day = path.name.partition(".")
+            made = into / f"{name}-at-{path.parents[1].name.replace('.', '-')}.{day}"
+        made.write_bytes(path.read_bytes())
     return into
 
 
