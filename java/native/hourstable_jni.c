@@ -324,6 +324,35 @@ static struct hs_policy policy_of(JNIEnv *env, jlongArray numbers) {
     return policy;
 }
 
+/* The number after those of the receipt is as that of a block. */
+NATIVE(jint, sliceletReceive)(JNIEnv *env, jclass self, jlong place, jlongArray clock, jlong now, jlongArray policy,
+                              jbyteArray grant, jlongArray receipt, jbyteArray line) {
+    (void)self;
+    struct bytes it;
+    struct hs_task_clock read = clock_of(env, clock);
+    struct hs_policy given = policy_of(env, policy);
+    struct hs_receipt made = {0};
+    size_t length = (size_t)(*env)->GetArrayLength(env, line), needed = SIZE_MAX;
+    uint8_t none, *room = length ? malloc(length) : &none;
+    jint code = HS_NO_MEMORY;
+    (*env)->GetLongArrayRegion(env, receipt, 0, sizeof made / 8, (jlong *)&made);
+    if (take(env, grant, &it)) {
+        if (room)
+            code = hs_slicelet_receive(PLACE(place), &read, (uint64_t)now, &given, it.at, it.length, &made, room,
+                                       length, &needed);
+        drop(&it, code);
+    }
+    jlong told = needed == SIZE_MAX || (code < 0 && code != HS_NO_ROOM) ? -1 : (jlong)needed;
+    if (code >= 0 && told > 0)
+        (*env)->SetByteArrayRegion(env, line, 0, (jsize)told, (const jbyte *)room);
+    (*env)->SetLongArrayRegion(env, clock, 0, sizeof read / 8, (const jlong *)&read);
+    (*env)->SetLongArrayRegion(env, receipt, 0, sizeof made / 8, (const jlong *)&made);
+    (*env)->SetLongArrayRegion(env, receipt, sizeof made / 8, 1, &told);
+    if (room != &none)
+        free(room);
+    return code;
+}
+
 NATIVE(jint, tableOpen)(JNIEnv *env, jclass self, jlong place, jbyteArray job, jlongArray policy) {
     (void)self;
     struct bytes it;

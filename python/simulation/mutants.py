@@ -57,7 +57,7 @@ MUTANTS = (
     Mutant("check-always", "task.py", ((
         "self._task._leases is self._leases and self._leases.check(self._entered, self._is_logged)",
         "self._leases.check(self._entered, self._is_logged) or True",
-    ),), seeds="2"),
+    ),), seeds="5"),
     Mutant("old-leases", "task.py", ((
         "return self._task._leases is self._leases and self._leases.check(", "return self._leases.check(",
     ),), why_not="a life lasts for thousands of calls"),

@@ -34,6 +34,9 @@ final class Native {
 
     static native int sliceletLeave(long place, long[] clock, long now, long[] block, byte[] line);
 
+    static native int sliceletReceive(
+        long place, long[] clock, long now, long[] policy, byte[] grant, long[] receipt, byte[] line);
+
     static native long boottimeTicks();
 
     static native int taskClockNew(long[] clock, long extra, long per, long grain, long oldest);

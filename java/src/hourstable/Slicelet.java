@@ -2,6 +2,7 @@ package hourstable;
 
 import java.nio.charset.StandardCharsets;
 import java.util.Arrays;
+import java.util.Optional;
 import java.util.function.LongSupplier;
 
 /**
@@ -191,6 +192,28 @@ public final class Slicelet extends Place {
         } finally {
             lock.readLock().unlock();
         }
+    }
+
+    /**
+     * Receives a grant, given as its message: reads the local clock and then {@code clock}, hears the grant at that reading as
+     * hear does, unless it shows that clocks are not timely, and writes the line of that call, in one call of the library,
+     * which decodes the message once. {@code policy} is that of the table, and {@code ticket} is as for enter. Returns the
+     * lease, with a covering of 0, or nothing if the grant shows that clocks are not timely: then nothing is heard, and there
+     * is no line. The codes of {@link TaskClock#read}, with which no call is made, HS_WRONG_FORM if a number of the policy is
+     * outside its limits, then those of hear, of which those of the slicelet have a line.
+     */
+    public Optional<Served> receive(TaskClock clock, LongSupplier local, long ticket, Table.Policy policy, byte[] grant,
+        Receipt receipt) throws Refused {
+        long[] given = policy.numbersOf();
+        lock.writeLock().lock();
+        try {
+            int code = receipt.call(clock, local, ticket, grant.length, now -> Native.sliceletReceive(
+                address(), clock.numbers, now, given, grant, receipt.numbers, receipt.room));
+            Refused.check(code, receipt.told());
+        } finally {
+            lock.writeLock().unlock();
+        }
+        return receipt.isEvidence() ? Optional.empty() : Optional.of(Served.of(receipt.told()));
     }
 
     /** The slice key of a key. */

@@ -234,6 +234,44 @@ public final class LibraryTest {
         }
     }
 
+    /** The grant was made at 40 of the table. The clock is 6 ahead of the local one, and the skew is 10. */
+    private static void receives() throws Exception {
+        Table.Policy policy = new Table.Policy(1, 1, 10, 100, 100, 1000, 1000);
+        String said = "\"grant\":{\"ends\":130,\"generation\":3,\"kind\":\"guard\",\"life\":1,\"number\":7,"
+            + "\"ranges\":[[0,9223372036854775808]],\"task\":2,\"until\":140}";
+        for (boolean hasLines : List.of(true, false)) {
+            TaskClock clock = new TaskClock(new TaskClock.Drift(0, 1, 0), 500);
+            Receipt receipt = new Receipt(hasLines);
+            try (Slicelet task = new Slicelet("shop", 2)) {
+                task.start(1, 5);
+                refuses("a grant before a sample", "HS_NO_SAMPLE", "no-sample",
+                    () -> task.receive(clock, () -> 1, 20, policy, grant(7, 130), receipt));
+                is("a grant before a sample is called", receipt.isCalled(), false);
+                clock.sample(0, 6, 0);
+                is("evidence", task.receive(clock, () -> 23, 20, policy, grant(7, 130), receipt).isEmpty(), true);
+                is("evidence is called", receipt.isCalled() && receipt.isEvidence(), true);
+                is("the line of evidence", receipt.line().length, 0);
+                refuses("a key after evidence", "HS_NO_LEASE", "no-lease", () -> task.serve(HELLO, 29));
+                Slicelet.Served lease = task.receive(clock, () -> 24, 20, policy, grant(7, 130), receipt).get();
+                is("the lease", lease, new Slicelet.Served(Kind.GUARD, 3, 7, 130, 0));
+                is("the reading", receipt.at(), 30L);
+                is("the line", new String(receipt.line(), UTF_8), hasLines ? "{\"at\":30,\"do\":\"hear\"," + said
+                    + ",\"reply\":\"heard 7\",\"task\":2,\"ticket\":20}\n" : "");
+                refuses("a grant again", "HS_OLD", "old 7",
+                    () -> task.receive(clock, () -> 25, 21, policy, grant(7, 130), receipt));
+                is("a grant again is called", receipt.isCalled() && !receipt.isEvidence(), true);
+                is("its line", new String(receipt.line(), UTF_8), hasLines ? "{\"at\":31,\"do\":\"hear\"," + said
+                    + ",\"reply\":\"refused old 7\",\"task\":2,\"ticket\":21}\n" : "");
+                refuses("no message", "HS_NOT_JSON", "not-json",
+                    () -> task.receive(clock, () -> 26, 22, policy, "{".getBytes(UTF_8), receipt));
+                is("no message is called", receipt.isCalled(), false);
+                refuses("a grant before 25", "HS_CLOCK_BACK", "clock-back",
+                    () -> task.receive(clock, () -> 24, 23, policy, grant(8, 130), receipt));
+                is("what is held", task.serve(HELLO, 31).number(), 7L);
+            }
+        }
+    }
+
     private static void resumes() throws Exception {
         try (Slicelet task = Slicelet.resume("shop", 2, 4)) {
             refuses("an earlier life", "HS_OLD_LIFE", "old-life", () -> task.start(4, 1));
@@ -477,6 +515,7 @@ public final class LibraryTest {
         handles();
         covers();
         blocks();
+        receives();
         resumes();
         looks();
         threads();

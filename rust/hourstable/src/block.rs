@@ -15,7 +15,7 @@ pub struct Block {
 }
 
 /// How many bytes a line of a block needs at most.
-const LINE: usize = 512;
+pub(crate) const LINE: usize = 512;
 
 impl Block {
     /// A block whose calls write no line.

@@ -25,6 +25,7 @@ mod clock;
 mod control;
 mod loads;
 mod place;
+mod receipt;
 mod refused;
 mod slicelet;
 
@@ -33,6 +34,7 @@ pub use clerk::{Clerk, Owners};
 pub use clock::{boottime_ticks, clock_evidence, Drift, TableClock, TaskClock};
 pub use control::{plan, Action, Assigner, PlanPolicy, Policy, Row, Table, Term};
 pub use loads::{LoadBook, LoadRecord};
+pub use receipt::Receipt;
 pub use refused::{Code, Refused};
 pub use slicelet::{ended_note, read_grant, Grant, Handle, Lease, Serving, Slicelet, TaskAction};
 
