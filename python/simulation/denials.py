@@ -13,6 +13,7 @@ from .world import SECOND
 EVERY = 0.25  # seconds between two looks
 RECENT = 2.0  # seconds for which a fault that struck counts
 LOOK = int(EVERY * SECOND)
+AROUND = 4 * SECOND  # the loss of a block, in which another task gains a key that moves
 
 
 class Denial(NamedTuple):
@@ -31,6 +32,21 @@ class Denial(NamedTuple):
     def __str__(self) -> str:
         how = "moved" if self.moved else "stayed"
         return f"{self.key} {how}, denied from {self.begun / SECOND:.2f} for {self.seconds:.2f} s"
+
+
+def lapses(cluster: Cluster) -> list[str]:
+    """Returns the blocks that tasks lost although their keys stayed, as no other task gained them at about that time:
+    they were denied, be it too shortly for a look."""
+    made = []
+    for loss in cluster.losses:
+        place = slice_key(loss.key.encode())
+        moves = [
+            it for it in cluster.gains
+            if abs(it.at - loss.at) < AROUND and it.task != loss.task and holds(it.ranges, place)
+        ]
+        if not moves:
+            made.append(f"{loss.key} lapsed, {loss.task} lost a block on it at {loss.at / SECOND:.2f}")
+    return made
 
 
 class Watch:

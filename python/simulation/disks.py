@@ -28,9 +28,10 @@ class File:
 class Disk:
     """The disk of a host."""
 
-    def __init__(self, folder: Path, may_lose: bool) -> None:
+    def __init__(self, folder: Path, may_lose: bool, allocates: bool) -> None:
         self.folder = folder
         self.may_lose = may_lose  # whether its host may lose its power
+        self.allocates = allocates  # whether its filesystem gives room ahead, which a full disk then has left
         self.full_below: str = ""  # a part of the paths of files that cannot be written
         self.has_lost = False  # whether a power loss took something
         self._files: dict[str, File] = {}
@@ -58,6 +59,8 @@ class Disk:
     def allocate(self, file: int, end: int) -> None:
         """Notes that there is room for the bytes of a file up to this length."""
         _, name = self._open[file]
+        if not self.allocates:
+            raise OSError(errno.EOPNOTSUPP, "operation not supported", name)
         if self._is_full(name):
             raise OSError(errno.ENOSPC, "no space left on device", name)
         self._files[name].allocated = max(self._files[name].allocated, end)
@@ -86,18 +89,19 @@ class Disk:
             fcntl.flock(file, fcntl.LOCK_UN)  # also where a mapping still has the file open
             self.close(file)
 
-    def lose_power(self, now: int, rng: Random) -> None:
-        """Takes what is not on the disk. All files are closed."""
+    def lose_power(self, now: int, rng: Random, keeps_lines: bool) -> None:
+        """Takes what is not on the disk: of mapped files alone, if lines are kept. All files are closed."""
         for name, file in self._files.items():
             path = Path(name)
             if name.endswith(".ticket"):
-                self._lose_flushes(path, file, rng)
-            else:
+                if keeps_lines or rng.random() < 0.5:
+                    self._lose_flushes(path, file)
+            elif not keeps_lines:
                 self._lose_lines(path, file, now, rng)
 
-    def _lose_flushes(self, path: Path, file: File, rng: Random) -> None:
-        """A page of a mapped file may have been written by the kernel at any time after its flush."""
-        if path.exists() and rng.random() < 0.5:
+    def _lose_flushes(self, path: Path, file: File) -> None:
+        """A page of a mapped file may have been written by the kernel at any time after its flush, or not."""
+        if path.exists():
             path.write_bytes(file.flushed if file.flushed is not None else b"")
 
     def _lose_lines(self, path: Path, file: File, now: int, rng: Random) -> None:

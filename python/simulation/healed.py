@@ -1,6 +1,7 @@
 """Whether all is well again after the faults of a run have ended."""
 
 import asyncio
+from collections import Counter as Counts
 from dataclasses import dataclass, field
 from typing import Any
 
@@ -9,10 +10,16 @@ from hourstable.ranges import holds
 from hourstable.task import Denied, LeaseLost
 
 from .services import Cluster, Service
+from .sizes import sizes_of
 from .world import SECOND, Process
 
 RENEWALS = 2  # that each task must make in the time
 SOME_FILES = 3  # beside a log for each job
+MOST_KEPT = 100  # elements of the containers of a process that stand at one place
+MORE_KEPT = 60  # of them after two guard terms in which nothing fails
+RECORDS = {  # places whose containers leave out the oldest of more elements than they are to have
+    "Lanes.stretches", "Lanes.terms", "Lanes.phases", "Lanes.events", "Job.notes", "Record._shown",
+}
 LOOKS = 10  # at the keys that nobody serves, in a guard term
 CALLS_SETTLE = 20  # looks at which a plane may be busy before it counts as one that waits
 
@@ -37,11 +44,14 @@ def health(cluster: Cluster) -> Health:
     before = {one.process: _renewed(one) for one in _tasks(cluster)}
     missing = set(_unnoticed(cluster))
     late: set[str] | None = None
+    kept: dict[Process, Counts[str]] = {}
     made = Health()
     while world.now < end:
         world.run_until(world.now + term // LOOKS)
         if missing:
             missing &= set(_unnoticed(cluster))
+        if not kept and world.now >= begun + term:
+            kept = {process: sizes_of(one.object) for one in _served(cluster) if (process := one.process)}
         if made.seconds is None and not missing:
             made.seconds = (world.now - begun) / SECOND
         if world.now > end - term and late != set():  # a key that moves is denied for a lease at most
@@ -54,7 +64,7 @@ def health(cluster: Cluster) -> Health:
     ]
     made.behind = _behind(cluster)
     made.waiting = _waiting(cluster)
-    made.grown = _grown(cluster)
+    made.grown = [*_grown(cluster), *_kept(cluster, kept)]
     for name in (*made.not_renewed, *made.waiting):
         world.tell(f"{name} waits in {where(cluster.services[name].process)}")
     return made
@@ -136,6 +146,24 @@ def _waiting(cluster: Cluster) -> list[str]:
             break
         cluster.world.run_until(cluster.world.now + SECOND // 13)
     return sorted(busy)
+
+
+def _served(cluster: Cluster) -> list[Service]:
+    """Returns the services whose programs have begun."""
+    return [one for one in cluster.services.values() if one.process is not None and one.object is not None]
+
+
+def _kept(cluster: Cluster, before: dict[Process, Counts[str]]) -> list[str]:
+    """Returns the processes that keep more than they need, or ever more."""
+    made = []
+    for service in _served(cluster):
+        assert service.process is not None
+        known = before.get(service.process)
+        for place, length in sizes_of(service.object).items():
+            more = length - known[place] if known is not None else 0
+            if place not in RECORDS and (length > MOST_KEPT or more > MORE_KEPT):
+                made.append(f"{service.name}: {place} has {length} elements, {more} of them new")
+    return made
 
 
 def _grown(cluster: Cluster) -> list[str]:

@@ -28,19 +28,19 @@ MUTANTS = (
         "        lines = [one.line for one in played]\n"
         "        for waiting, made, _ in played:\n            waiting.tell(made)\n",
     ),), seeds="31"),
-    Mutant("version-not-compared", "store_sqlite.py", ((
-        '" WHERE job = ? AND version = ?",', '" WHERE job = ? AND version >= 0 * ?",',
-    ),), seeds="113"),
+    Mutant("version-not-compared", "store_sqlite.py", (
+        ('AND version = ?{where}",', 'AND version >= 0 * ?{where}",'),
+        ('where, compared = f" AND {HOLDER} = ?",', 'where, compared = f" AND {HOLDER} <> ?",'),
+    ), seeds="113"),
     Mutant("conflict-ignored", "jobs.py", ((
         "        except Conflict:\n            self._counters.replaced(self.name)\n",
         "        except Conflict:\n            return\n            self._counters.replaced(self.name)\n",
     ),), why_not="the next look at the store drops the table"),
     Mutant("conflict-overwritten", "jobs.py", ((
-        "        held.version = await self.ask(\n"
-        "            \"swap\", self._store.swap, self.name, held.version, kept, text\n        )\n",
-        "        newest = await self._store.version(self.name) or 0\n"
-        "        held.version = await self.ask(\n"
-        "            \"swap\", self._store.swap, self.name, newest, kept, text\n        )\n",
+        "        written = await self.ask(\"swap\", self._store.swap, *given)\n",
+        "        newest = await self._store.load(self.name)\n"
+        "        given = (self.name, newest.version, *given[2:4], holding._replace(before=newest.holder))\n"
+        "        written = await self.ask(\"swap\", self._store.swap, *given)\n",
     ),), seeds="36"),
     Mutant("ticket-before-claim", "jobs.py", (
         ("        self._waiting.append(Waiting(call, answer))\n",
@@ -93,33 +93,37 @@ MUTANTS = (
         "                pass",
     ),), seeds="2"),
     Mutant("restore-not-stored", "jobs.py", ((
-        "            version, line = await self._write_restore(stored, row)",
-        "            version, line = stored.version, stored.line",
+        "            version, line = await self._write_restore(stored, row, rights)\n"
+        "            holder = self.settings.incarnation",
+        "            version, line = stored.version, row.lines[-1]",
     ),), seeds="20"),
     Mutant("clock-ahead", "clock.py", (
         ("TableClock(kept, ahead + GRAIN + 1, local())", "TableClock(kept, 0, local())"),
-    ), why_not="planes that share a store save nothing ahead"),
+    ), seeds="102"),
     Mutant("lines-not-logged", "jobs.py", (
         ("            self._log.append(*lines)\n            held.line", "            held.line"),
     ), seeds="2"),
     Mutant("last-not-kept", "tickets.py", (
         ("                self._words[LAST] = place\n", "                pass\n"),
-    ), why_not="a message that is read first has a later ticket"),
+    ), seeds="187"),
     Mutant("boot-not-compared", "tickets.py", (
         ("        if boot and boot == self.fields.boot and", "        if boot and"),
-    ), why_not="a message that is read first has a later ticket"),
+    ), seeds="21"),
     Mutant("poller-ends", "control.py", ((
         "                        followed.job.unsee()\n                    continue",
         "                        followed.job.unsee()\n                    return",
     ),), seeds="31"),
     Mutant("notes-not-brought", "task.py", ((
-        '                await self._control.read(replies.freed_in, "POST", "/free", note)\n                return',
+        '                await self._control.read(replies.freed_in, "POST", "/free", body)\n                return',
         "                return",
     ),), seeds="55"),
     Mutant("renews-late", "task.py", ((
         "        half = max(0, leases.held[kind].until - at) / 2",
         "        half = max(0, leases.held[kind].until - at) * 1.2",
-    ),), why_not="the gaps are of milliseconds"),
+    ),), seeds="55"),
+    Mutant("wakes-kept", "jobs.py", (
+        ("            self._wakes.discard(waking)\n", "            pass\n"),
+    ), seeds="2"),
     Mutant("work-not-ended", "jobs.py", ((
         "                one.fail(error)\n        finally:\n            self._working = None",
         "                one.fail(error)\n        finally:\n            pass",
@@ -135,7 +139,7 @@ MUTANTS = (
     ),), seeds="24"),
     Mutant("policy-from-anything", "replies.py", (
         ("    answer.value()\n    return answer.status != 409", "    return answer.status != 409"),
-    ), why_not="an odd answer also ends the tasks, which then create the job"),
+    ), seeds="117"),
 )
 
 

@@ -25,7 +25,7 @@ from .exchanges import ask
 from .handlers import Direct, Handlers
 from .machine import Machine
 from .scene import JobScene
-from .services import OTHER_SECRET, SECRET, SERVICE, Cluster, Service
+from .services import OTHER_SECRET, SECRET, SERVICE, Cluster, Gain, Loss, Service
 from .stores import SharedStore
 from .strangers import listen
 from .world import Process
@@ -77,7 +77,7 @@ async def run_plane(at: int, service: Service) -> None:
         await listen(process, (host, port), wrong)
         return
     options = Options(
-        "simulated:", service.host.disk.folder, host, port, process=at, shared=True,
+        "simulated:", service.host.disk.folder, host, port, process=at, shared=cluster.scene.is_shared,
         assigner=0 if cluster.scene.lone_assigners else at + 1,
         secrets=[OTHER_SECRET if wrong == "401" else SECRET], rules=RULES,
         state=service.host.disk.folder / "state",
@@ -144,6 +144,7 @@ class Served:
             await asyncio.sleep(rng.uniform(0, 3 * cluster.scene.term))
 
     def on_gain(self, ranges: Ranges) -> None:
+        self.cluster.gains.append(Gain(self.cluster.world.now, self.process.name, ranges))
         if self.process.rng.random() < self.cluster.callbacks:
             raise RuntimeError("on_gain fails")
 
@@ -161,8 +162,11 @@ class Served:
             return True
         except Denied as why:
             return f"denied {why.ground}"
-        except (LeaseLost, Taken):
+        except LeaseLost:
+            self.cluster.losses.append(Loss(self.cluster.world.now, self.process.name, key))
             return "lost"
+        except Taken:
+            return "taken"
 
     async def work(self, key: str, length: float) -> None:
         """Works for a key, and checks twice that it still has it."""

@@ -9,7 +9,7 @@ from zlib import crc32
 
 from . import linear
 from .audits import audit
-from .denials import RECENT, Watch
+from .denials import RECENT, Watch, lapses
 from .faults import Fault, Faults, plan_of
 from .healed import Health, health
 from .programs import add_all
@@ -148,7 +148,7 @@ class Run:
             denied = [
                 str(it) for it in self.watch.denials
                 if it.seconds > (QUIET_BOUND if it.moved else 0) and it.begun > scene.begin * SECOND
-            ]
+            ] + lapses(cluster)
         wild = scene.world == "wild"  # beyond the drift nothing is promised
         back = any(it.kind == "go_back" for it in self.faults.struck)
         found: dict[str, list[str]] = {

@@ -47,11 +47,17 @@ class Scene:
     every: float = 2.0  # seconds from a fault to the next
     begin: float = 10.0
     length: float = LENGTH
+    keeps_lines: bool = False  # whether a power loss takes nothing that was written, but for what is mapped
 
     @property
     def term(self) -> float:
         """The guard term in seconds."""
         return self.guard / 1000
+
+    @property
+    def is_shared(self) -> bool:
+        """Whether planes share the store. One that has it for itself saves readings and grants ahead."""
+        return self.planes > 1
 
     @property
     def end(self) -> float:
@@ -154,15 +160,21 @@ def _adapt(made: Scene, rng: Random) -> None:
         made.jobs.append(JobScene("cart", _after(shop.tasks, TASKS_OF_SECOND_JOB)))
     if made.world in ("strangers", "secrets"):  # the second job is not yet created when they come
         made.jobs[1:] = [JobScene("cart", _after(shop.tasks, TASKS_OF_SECOND_JOB))]
-        made.late, made.every = 15.0, 1.5
+        made.late, made.every = 30.0, 1.5
     if made.world == "seconds":
         made.seconds = shop.tasks[:2]
+    if made.world == "power":
+        made.keeps_lines = rng.random() < 0.5
     if made.world == "quiet":
         made.planes, made.engine, made.lone_assigners = 2, "rows", 0
     if made.world == "wild":
         made.drift, made.waits = 100_000, True  # else nobody hears of clocks that are broken
-    if made.world in ("clocks", "strangers", "secrets"):
+    if made.world in ("strangers", "secrets"):
         made.planes = 2
+    if made.world in ("clocks", "power"):  # what a plane alone has not yet stored comes after the tickets it kept
+        made.planes = rng.choice((1, 1, 2))
+    if made.world == "clocks" or made.keeps_lines:
+        made.every = 1.5
     if {"disk", "disk_of_job"} & set(made.kinds):
         made.waits = True  # else the application never hears that its task has ended
     if made.is_whole:

@@ -8,6 +8,7 @@ from random import Random
 from typing import Any, NamedTuple
 
 from hourstable.beats import PART
+from hourstable.ranges import Ranges
 from hourstable.service import ControlPlane
 from hourstable.task import Task
 
@@ -35,6 +36,22 @@ class Exit(NamedTuple):
 
     def __str__(self) -> str:
         return f"{self.at / SECOND:.6f} {self.name}: {self.why}"
+
+
+class Gain(NamedTuple):
+    """Slice keys that a task was told to have gained."""
+
+    at: int
+    task: str
+    ranges: Ranges
+
+
+class Loss(NamedTuple):
+    """A block of `serving` that a task lost."""
+
+    at: int
+    task: str
+    key: str
 
 
 class Service:
@@ -116,6 +133,8 @@ class Cluster:
         owners = {key: job.owners for job in scene.jobs for key in job.keys}
         self.oracle = Oracle(world, owners)
         self.exits: list[Exit] = []
+        self.gains: list[Gain] = []
+        self.losses: list[Loss] = []
         self.failed: list[str] = []  # requests that a plane answered by 500
         self.callbacks = 0.0  # the part of callbacks of tasks that fail
         self.hot: str | None = None  # the key for which half of all requests are
@@ -151,7 +170,8 @@ class Cluster:
         folder = self.folder / address
         folder.mkdir(parents=True, exist_ok=True)
         wall = int(rng.gauss(0, 2) * SECOND) if self.scene.is_skewed else 0
-        disk = Disk(folder, "power" in self.scene.kinds)
+        kinds = set(self.scene.kinds)
+        disk = Disk(folder, "power" in kinds, not {"disk", "disk_of_job"} & kinds or rng.random() < 0.5)
         host = self.network.hosts[address] = Host(self.world, address, ppm, wall, disk)
         return host
 

@@ -3,7 +3,8 @@ has the tasks, files and connections that it had. All runs in virtual time, thro
 
 import asyncio
 import json
-from collections.abc import Iterator
+import re
+from collections.abc import Callable, Iterator
 from pathlib import Path
 from typing import Any
 
@@ -16,6 +17,7 @@ from simulation.scene import JobScene, Scene
 from simulation.services import SECRET, Cluster
 from simulation.world import SECOND, Process, World
 
+BEGUN = range(1, 4)  # tasks that have had life 1
 PATIENCE = 40  # virtual seconds for an answer: longer than a waiting GET
 JOB = "shop"
 POLICY = {"redundancy": [1, 1], "skew": 0, "guard": 1000, "bridge": 1000, "job": 2000, "numbers": 1000}
@@ -55,6 +57,8 @@ class Fuzzed:
         self.plane.start()
         self.run(1)
         assert self.ask(b"PUT", f"/jobs/{JOB}".encode(), body=json.dumps(POLICY).encode()) == 201
+        for task in BEGUN:
+            assert self.ask(b"POST", f"/jobs/{JOB}/tasks/{task}/life".encode()) == 200
         self.run(PATIENCE)
         self.had = self.has()
 
@@ -143,6 +147,120 @@ IN_LINE = st.binary(max_size=80).map(lambda it: it.translate(None, b"\r\n \t\x00
 
 def answered(status: int | None, what: object) -> None:
     assert status is None or status < 500, what
+
+
+# What python/README.md says of bodies: for each call its members, each with what it may be, and the statuses of a
+# right one. A member that may be left out has a question mark.
+Is = Callable[[object], bool]
+U64 = (1 << 64) - 1
+KEYS, MOST_LOAD = 1 << 63, 1 << 40
+
+
+def number(least: int, most: int) -> Is:
+    return lambda it: type(it) is int and least <= it <= most
+
+
+def text(it: object) -> bool:
+    return type(it) is str and len(it) <= 128
+
+
+def is_place(it: object) -> bool:
+    return isinstance(it, dict) and all(text(it.get(name, "")) for name in ("process", "boot", "device", "inode"))
+
+
+def is_shown(it: object) -> bool:
+    lives = re.compile(r"[0-9]{1,10}")
+    return isinstance(it, dict) and len(it) <= 8 and all(lives.fullmatch(life) and text(it[life]) for life in it)
+
+
+def is_loads(it: object) -> bool:
+    return isinstance(it, list) and len(it) <= 1024 and all(map(is_range, it))
+
+
+def is_range(it: object) -> bool:
+    if not isinstance(it, list) or len(it) != 3 or type(it[2]) is not int:
+        return False
+    ends = [int(end) if type(end) is str and re.fullmatch("[0-9]+", end) else end for end in it[:2]]
+    low, high = ends
+    return type(low) is type(high) is int and 0 <= low < high <= KEYS and 0 <= it[2] <= MOST_LOAD
+
+
+def is_redundancy(it: object) -> bool:
+    return number(0, U64)(it) or isinstance(it, list) and len(it) == 2 and all(map(number(0, U64), it))
+
+
+TASK, LIFE = number(1, 64), number(1, (1 << 32) - 1)
+GRANT: dict[str, Is] = {"task": TASK, "life": LIFE, "key?": text, "place?": is_place, "shown?": is_shown}
+WORDS = ("skew", "guard", "bridge", "job", "numbers")
+CALLS: dict[str, tuple[dict[str, Is], set[int]]] = {
+    "/jobs/{job}/grant": (GRANT, {200, 403, 409, 429}),
+    "/grants": ({"grants": lambda it: isinstance(it, list) and 1 <= len(it) <= 1024}, {200}),
+    "/jobs/{job}/take": ({"assigner": number(1, U64)}, {200, 409}),
+    "/jobs/{job}/renew": ({"term": number(0, U64)}, {200, 409}),
+    "/jobs/{job}/commit": ({"term": number(0, U64), "generation?": number(1, U64)}, {200, 409}),
+    "/jobs/{job}/drain": ({"task": TASK}, {204}),
+    "/jobs/{job}/loads": (
+        {
+            "task": TASK, "life?": LIFE, "key?": text, "loads": is_loads, "denied?": lambda it: it == {},
+            "clock_behind?": number(0, U64), "calls_left?": lambda it: it is None or number(0, U64)(it),
+        },
+        {204, 403},
+    ),
+    "/jobs/{job}": ({"redundancy": is_redundancy, **dict.fromkeys(WORDS, number(0, U64))}, {200, 400, 409}),
+}
+SMALL = st.integers(0, 70)
+RIGHT: dict[str, st.SearchStrategy[Any]] = {  # values that are mostly right
+    "key": st.text(max_size=8), "place": st.dictionaries(st.sampled_from(("process", "boot")), st.text(max_size=4)),
+    "shown": st.dictionaries(st.integers(0, 9).map(str), st.text(max_size=4), max_size=3),
+    "grants": st.lists(st.fixed_dictionaries({"job": st.just(JOB), "task": SMALL, "life": SMALL}), max_size=3),
+    "loads": st.lists(st.tuples(SMALL, st.integers(60, 200), SMALL).map(list), max_size=3),
+    "redundancy": st.just([1, 1]), "denied": st.just({}),
+}
+
+
+def is_right(canonical: str, given: dict[str, Any]) -> bool:
+    """Whether an object is a body of a call, as the rules say."""
+    members, _ = CALLS[canonical]
+    names = {name.rstrip("?"): check for name, check in members.items()}
+    if canonical == "/jobs/{job}" and set(given) != set(names):
+        return False
+    missing = [name for name in members if not name.endswith("?") and name not in given]
+    return not missing and all(names[name](it) for name, it in given.items() if name in names)
+
+
+def objects_of(canonical: str) -> st.SearchStrategy[dict[str, Any]]:
+    """Returns objects that a call may have as its body, most of them right, and some with a member that is missing,
+    odd or of another call."""
+    members = [name.rstrip("?") for name in CALLS[canonical][0]]
+    right = st.fixed_dictionaries({name: RIGHT.get(name, SMALL) for name in members})
+    odd = st.dictionaries(st.sampled_from((*members, *members, *MEMBERS)), VALUES, max_size=1)
+    left_out = st.sets(st.sampled_from(members), max_size=1)
+    whole = st.tuples(right, odd, left_out).map(
+        lambda it: {name: value for name, value in {**it[0], **it[1]}.items() if name not in it[2]}
+    )
+    return st.one_of(right, whole)
+
+
+@FUZZ
+@given(data=st.data())
+def test_an_object_is_answered_as_the_rules_say(fuzzed: Fuzzed, data: st.DataObject) -> None:
+    canonical = data.draw(st.sampled_from(sorted(CALLS)))
+    given = json.loads(json.dumps(data.draw(objects_of(canonical))))
+    method = b"PUT" if canonical == "/jobs/{job}" else b"POST"
+    status = fuzzed.ask(method, path_of(canonical), body=json.dumps(given).encode())
+    if is_right(canonical, given):
+        never_begun = canonical.endswith("/grant") and not (given["task"] in BEGUN and given["life"] == 1)
+        assert status in CALLS[canonical][1] or never_begun and status == 400, (canonical, given)
+    elif canonical == "/jobs/{job}/loads":
+        assert status in (400, 403), (canonical, given)  # the key of the life comes first
+    else:
+        assert status == 400, (canonical, given)
+
+
+@FUZZ
+@given(given=OBJECTS, call=st.sampled_from(("free", "propose?term=1")))
+def test_an_object_that_is_no_message(fuzzed: Fuzzed, given: bytes, call: str) -> None:
+    assert fuzzed.ask(b"POST", f"/jobs/{JOB}/{call}".encode(), body=given) == 400
 
 
 @FUZZ

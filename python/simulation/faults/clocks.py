@@ -9,7 +9,7 @@ DAYS = 2 * 86_400 * SECOND
 @kind
 def strike_set_clock(strike: Strike) -> None:
     """The real time of a host is set."""
-    host = strike.any().host
+    host = strike.any("plane", "task").host
     by = int(strike.rng.gauss(0, 30) * SECOND)
     host.wall += by
     strike.tell(f"{host.address} by {by / SECOND:.3f} s")

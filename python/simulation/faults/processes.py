@@ -19,13 +19,16 @@ def _may_crash(strike: Strike, host: Host) -> bool:
 
 
 def _crash(strike: Strike, host: Host, seconds: float) -> None:
-    """A host stands still for good: nobody is told, and CLOCK_BOOTTIME begins anew at its boot."""
+    """A host stands still for good: nobody is told. CLOCK_BOOTTIME begins anew at its boot, and real time may then be
+    behind."""
     for service in strike.cluster.on(host):
         service.kill(None, silent=True)
     host.is_down = True
 
     def boot() -> None:
         host.boot(strike.rng.randrange(60_000) * MILLISECOND)
+        if strike.rng.random() < 0.5:
+            host.wall -= strike.rng.randrange(60 * SECOND)
         for service in strike.cluster.on(host):
             service.start()
 
@@ -43,12 +46,14 @@ def strike_crash(strike: Strike) -> None:
 
 @kind
 def strike_power(strike: Strike) -> None:
-    """A host loses its power: its files lose what was not on the disk."""
-    host = strike.any("plane", "task").host
+    """A host loses its power: its files lose what was not on the disk, or only mapped ones do. At times it boots in
+    less than a second."""
+    host = strike.any(*strike.rng.choice((("plane",), ("plane", "task")))).host
     if _may_crash(strike, host):
         strike.tell(host.address)
-        _crash(strike, host, strike.leases(3) * strike.rng.random() ** 2)
-        host.disk.lose_power(strike.world.now, strike.rng)
+        seconds = strike.leases(3) * strike.rng.random() ** 2
+        _crash(strike, host, strike.rng.choice((seconds, strike.rng.uniform(0.1, 1.0))))
+        host.disk.lose_power(strike.world.now, strike.rng, strike.cluster.scene.keeps_lines)
 
 
 @kind
