@@ -3,32 +3,34 @@ package hourstable
 /*
 #include "hourstable.h"
 
-// What a call of a block returns, by value, so that it does not escape to Go's heap.
+// What a call of a block returns, by value, so that it does not escape to Go's heap. So does the clock, of which each
+// call has a copy.
 struct made {
     int32_t code;
     size_t needed;
     struct hs_block block;
+    struct hs_task_clock clock;
 };
 
 // needed is SIZE_MAX if the clock refuses, and no call is made.
-static struct made enter(const struct hs_place *place, struct hs_task_clock *clock, uint64_t now, const uint8_t *key,
+static struct made enter(const struct hs_place *place, struct hs_task_clock clock, uint64_t now, const uint8_t *key,
                          size_t key_len, uint64_t ticket, uint8_t *out, size_t out_len) {
-    struct made it = {.needed = SIZE_MAX, .block = {.ticket = ticket}};
-    it.code = hs_slicelet_enter(place, clock, now, key, key_len, &it.block, out, out_len, &it.needed);
+    struct made it = {.needed = SIZE_MAX, .block = {.ticket = ticket}, .clock = clock};
+    it.code = hs_slicelet_enter(place, &it.clock, now, key, key_len, &it.block, out, out_len, &it.needed);
     return it;
 }
 
-static struct made enter_at(const struct hs_place *place, struct hs_task_clock *clock, uint64_t now,
+static struct made enter_at(const struct hs_place *place, struct hs_task_clock clock, uint64_t now,
                             uint64_t slice_key, uint64_t ticket, uint8_t *out, size_t out_len) {
-    struct made it = {.needed = SIZE_MAX, .block = {.ticket = ticket}};
-    it.code = hs_slicelet_enter_at(place, clock, now, slice_key, &it.block, out, out_len, &it.needed);
+    struct made it = {.needed = SIZE_MAX, .block = {.ticket = ticket}, .clock = clock};
+    it.code = hs_slicelet_enter_at(place, &it.clock, now, slice_key, &it.block, out, out_len, &it.needed);
     return it;
 }
 
-static struct made leave(const struct hs_place *place, struct hs_task_clock *clock, uint64_t now,
+static struct made leave(const struct hs_place *place, struct hs_task_clock clock, uint64_t now,
                          struct hs_key_handle handle, uint64_t ticket, uint8_t *out, size_t out_len) {
-    struct made it = {.needed = SIZE_MAX, .block = {.ticket = ticket, .handle = handle}};
-    it.code = hs_slicelet_leave(place, clock, now, &it.block, out, out_len, &it.needed);
+    struct made it = {.needed = SIZE_MAX, .block = {.ticket = ticket, .handle = handle}, .clock = clock};
+    it.code = hs_slicelet_leave(place, &it.clock, now, &it.block, out, out_len, &it.needed);
     return it;
 }
 */
@@ -59,8 +61,8 @@ type Block struct {
 // The codes of TaskClock.Read, with which no call is made, then those of Hold, which
 // have a line. After any other error the clock is as before.
 func (s *Slicelet) Enter(clock *TaskClock, local func() (uint64, error), key []byte, block *Block) error {
-	it, err := s.call(clock, local, block, func(now C.uint64_t, out *C.uint8_t, length C.size_t) C.struct_made {
-		return C.enter(&s.c, &clock.c, now, first(key), C.size_t(len(key)), C.uint64_t(block.Ticket), out, length)
+	it, err := s.call(clock, local, block, func(given C.struct_hs_task_clock, now C.uint64_t, out *C.uint8_t, length C.size_t) C.struct_made {
+		return C.enter(&s.c, given, now, first(key), C.size_t(len(key)), C.uint64_t(block.Ticket), out, length)
 	})
 	return block.entered(it, err)
 }
@@ -68,8 +70,8 @@ func (s *Slicelet) Enter(clock *TaskClock, local func() (uint64, error), key []b
 // EnterAt is Enter by slice key, without the hash of the key. ErrWrongForm if no key
 // has this slice key, which is 2^63 or more.
 func (s *Slicelet) EnterAt(clock *TaskClock, local func() (uint64, error), sliceKey uint64, block *Block) error {
-	it, err := s.call(clock, local, block, func(now C.uint64_t, out *C.uint8_t, length C.size_t) C.struct_made {
-		return C.enter_at(&s.c, &clock.c, now, C.uint64_t(sliceKey), C.uint64_t(block.Ticket), out, length)
+	it, err := s.call(clock, local, block, func(given C.struct_hs_task_clock, now C.uint64_t, out *C.uint8_t, length C.size_t) C.struct_made {
+		return C.enter_at(&s.c, given, now, C.uint64_t(sliceKey), C.uint64_t(block.Ticket), out, length)
 	})
 	return block.entered(it, err)
 }
@@ -78,8 +80,8 @@ func (s *Slicelet) EnterAt(clock *TaskClock, local func() (uint64, error), slice
 // that Enter took as Check does, and writes the line of that call. The codes of
 // TaskClock.Read, with which no call is made, then those of Check.
 func (s *Slicelet) Leave(clock *TaskClock, local func() (uint64, error), block *Block) error {
-	it, err := s.call(clock, local, block, func(now C.uint64_t, out *C.uint8_t, length C.size_t) C.struct_made {
-		return C.leave(&s.c, &clock.c, now, block.Handle.c(), C.uint64_t(block.Ticket), out, length)
+	it, err := s.call(clock, local, block, func(given C.struct_hs_task_clock, now C.uint64_t, out *C.uint8_t, length C.size_t) C.struct_made {
+		return C.leave(&s.c, given, now, block.Handle.c(), C.uint64_t(block.Ticket), out, length)
 	})
 	if err == nil && it.code != C.HS_DONE {
 		err = done(it.code, nil)
@@ -87,26 +89,26 @@ func (s *Slicelet) Leave(clock *TaskClock, local func() (uint64, error), block *
 	return err
 }
 
-// call makes a call of a block at a local reading that is taken while no other call of
-// the clock runs, and keeps its reading and its line. If the line finds no room, it
+// call makes a call of a block beside others, at a local reading that is taken after the
+// clock was copied, and keeps its reading and its line. If the line finds no room, it
 // makes the call again, which has changed nothing, with more.
 func (s *Slicelet) call(clock *TaskClock, local func() (uint64, error), block *Block,
-	call func(now C.uint64_t, out *C.uint8_t, length C.size_t) C.struct_made) (C.struct_made, error) {
+	call func(given C.struct_hs_task_clock, now C.uint64_t, out *C.uint8_t, length C.size_t) C.struct_made) (C.struct_made, error) {
 	s.mutex.RLock()
 	defer s.mutex.RUnlock()
-	clock.mutex.Lock()
-	defer clock.mutex.Unlock()
+	given := clock.copy() // before the local clock is read, so that it has read no later one
 	block.Called, block.Line = false, block.Line[:0]
 	now, err := local()
 	if err != nil {
 		return C.struct_made{}, err
 	}
 	line := block.Line[:cap(block.Line)]
-	it := call(C.uint64_t(now), first(line), C.size_t(len(line)))
+	it := call(given, C.uint64_t(now), first(line), C.size_t(len(line)))
 	if it.code == C.HS_NO_ROOM {
 		line = make([]byte, it.needed)
-		it = call(C.uint64_t(now), first(line), C.size_t(len(line)))
+		it = call(given, C.uint64_t(now), first(line), C.size_t(len(line)))
 	}
+	clock.gave(&given, &it.clock)
 	if it.code >= 0 && it.needed != C.SIZE_MAX {
 		block.Called, block.At, block.Line = true, uint64(it.block.at), line[:it.needed]
 	}

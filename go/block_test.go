@@ -7,6 +7,8 @@ import (
 	"math"
 	"reflect"
 	"strings"
+	"sync"
+	"sync/atomic"
 	"testing"
 
 	. "hourstable"
@@ -199,4 +201,34 @@ func TestBlocksAllocateNothing(t *testing.T) {
 		})
 		is(t, fmt.Sprintf("allocations with %d bytes", room), allocated, 0)
 	}
+}
+
+// Blocks of goroutines side by side: no local reading is too old for the clock, and the readings of
+// each goroutine do not fall.
+func TestBlocksSideBySide(t *testing.T) {
+	task, clock := halfTask(t), newClock(t)
+	succeeds(t, "sample", clock.Sample(0, 6, 0))
+	var ticks atomic.Uint64
+	local := func() (uint64, error) { return ticks.Add(1) / 1000, nil }
+	var waits sync.WaitGroup
+	for goroutine := 0; goroutine < 4; goroutine++ {
+		waits.Add(1)
+		go func() {
+			defer waits.Done()
+			last, block := uint64(0), Block{Line: make([]byte, 0, LineRoom)}
+			for call := 0; call < 5000; call++ {
+				err := task.Enter(clock, local, []byte("hello"), &block)
+				if err == nil {
+					last, err = block.At, task.Leave(clock, local, &block)
+				}
+				if err != nil || block.At < last {
+					t.Errorf("%d after %d: %v", block.At, last, err)
+					return
+				}
+			}
+		}()
+	}
+	waits.Wait()
+	at, err := clock.Read(40)
+	is(t, "the reading at the end", err == nil && at == 46, true)
 }

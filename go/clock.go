@@ -31,8 +31,31 @@ type Drift struct{ Extra, Per, Grain uint64 }
 // clock that counts while the machine is suspended, such as LocalTicks. A new
 // life of a task has a new clock.
 type TaskClock struct {
-	mutex sync.Mutex
+	mutex sync.RWMutex
 	c     C.struct_hs_task_clock
+}
+
+// copy returns the numbers of the clock, for a call that runs beside others.
+func (t *TaskClock) copy() C.struct_hs_task_clock {
+	t.mutex.RLock()
+	defer t.mutex.RUnlock()
+	return t.c
+}
+
+// gave takes the value that a copy gave, and its local reading: later values are not below
+// it.
+func (t *TaskClock) gave(before, after *C.struct_hs_task_clock) {
+	if after.last == before.last && after.given == before.given {
+		return
+	}
+	t.mutex.Lock()
+	defer t.mutex.Unlock()
+	if after.last > t.c.last {
+		t.c.last = after.last
+	}
+	if after.given > t.c.given {
+		t.c.given = after.given
+	}
 }
 
 // NewTaskClock returns a clock with no sample. oldest is how many ticks the task

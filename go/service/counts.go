@@ -27,7 +27,7 @@ func (t *Task) Counts() Counts {
 	made, log := t.counts, t.log
 	made.Denied, made.Heard = copied(t.counts.Denied), copied(t.counts.Heard)
 	t.mutex.Unlock()
-	made.Troubles = troubles
+	made.Troubles, made.Requests = troubles, t.desks.requests()
 	made.Unlogged = log.lacks()
 	return made
 }

@@ -38,12 +38,14 @@ func (t *Task) move(lost []hourstable.Range) {
 	t.mutex.Lock()
 	defer t.mutex.Unlock()
 	t.moving = lost
+	t.publish()
 }
 
 func (t *Task) moved(lost []hourstable.Range) {
 	t.mutex.Lock()
 	defer t.mutex.Unlock()
 	t.served, t.moving = minus(t.served, lost), nil
+	t.publish()
 }
 
 // leaveKeys tells that keys are given up, and waits until no answer runs on them,
@@ -90,15 +92,13 @@ func (t *Task) tellGained(gained []hourstable.Range) {
 	})
 }
 
-func (t *Task) isOpen(lost []hourstable.Range) bool {
-	t.mutex.Lock()
-	defer t.mutex.Unlock()
-	for lease := range t.open {
-		if holds(lost, lease.sliceKey) {
-			return true
+func (t *Task) isOpen(lost []hourstable.Range) (isOpen bool) {
+	t.desks.each(func(it *desk) {
+		for lease := range it.open {
+			isOpen = isOpen || holds(lost, lease.sliceKey)
 		}
-	}
-	return false
+	})
+	return isOpen
 }
 
 // free brings a note to the table, as long as it may be of use.

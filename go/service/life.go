@@ -46,6 +46,7 @@ func (t *Task) beginLife(ctx context.Context) error {
 	defer t.mutex.Unlock()
 	t.counts.Lives++
 	t.leases = held
+	t.publish()
 	return nil
 }
 
@@ -88,6 +89,7 @@ func (t *Task) dropLife() error {
 func (t *Task) forget(held *leases) {
 	t.mutex.Lock()
 	t.leases, t.moving = nil, nil
+	t.publish()
 	t.mutex.Unlock()
 	held.close()
 }

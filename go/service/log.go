@@ -8,6 +8,7 @@ import (
 	"os"
 	"path/filepath"
 	"sync"
+	"sync/atomic"
 	"time"
 )
 
@@ -33,6 +34,7 @@ type callLog struct {
 	part      uint64   // 1, and one more after each stop
 	next      *batch   // lines that wait for those that are being written; nil for none
 	isWriting bool
+	text      []byte // of those who write, one at a time: used again
 	isClosed  bool
 	untold    error  // why the log stopped, until stopped is told
 	lost      uint64 // lines that were not written
@@ -88,7 +90,23 @@ func openLog(folder, name string, job []byte, stopped func(error)) (*callLog, er
 	return made, nil
 }
 
-func utcDay() string { return time.Now().UTC().Format("2006-01-02") }
+func utcDay() string {
+	day := time.Now().Unix() / 86_400
+	if known := lastDay.Load(); known != nil && known.number == day {
+		return known.text
+	}
+	made := &dayText{day, time.Unix(day*86_400, 0).UTC().Format("2006-01-02")}
+	lastDay.Store(made)
+	return made.text
+}
+
+// dayText is a day, as the number of days since 1970 and as YYYY-MM-DD.
+type dayText struct {
+	number int64
+	text   string
+}
+
+var lastDay atomic.Pointer[dayText] // as it is written for each line
 
 // turn goes on in the file of a day.
 func (l *callLog) turn(day string) error {
@@ -325,8 +343,11 @@ func (l *callLog) append(part uint64, lines ...[]byte) {
 		l.lose(lines)
 		return
 	}
-	mine := l.joined(lines)
-	if l.isWriting {
+	if !l.isWriting { // and so nobody waits
+		l.isWriting = true
+		l.write(part, lines)
+	} else {
+		mine := l.joined(lines)
 		l.mutex.Unlock()
 		select {
 		case <-mine.done:
@@ -335,10 +356,10 @@ func (l *callLog) append(part uint64, lines ...[]byte) {
 		case <-mine.turn:
 			l.mutex.Lock()
 		}
+		l.next = nil
+		l.write(mine.part, mine.lines)
+		close(mine.done)
 	}
-	l.isWriting, l.next = true, nil
-	l.write(mine)
-	close(mine.done)
 	if l.isWriting = l.next != nil; l.isWriting {
 		l.next.turn <- struct{}{}
 	}
@@ -353,18 +374,23 @@ func (l *callLog) joined(lines [][]byte) *batch {
 	return l.next
 }
 
-// write writes a batch. The mutex is held, but for the write itself.
-func (l *callLog) write(one *batch) {
+// write writes lines to a part. The mutex is held, but for the write itself.
+func (l *callLog) write(part uint64, lines [][]byte) {
 	if day := utcDay(); l.file != nil && day != l.day {
 		if err := l.turn(day); err != nil {
 			l.stop(err)
 		}
 	}
-	if l.file == nil || one.part != l.part { // it stopped while the batch waited
-		l.lose(one.lines)
+	if l.file == nil || part != l.part { // it stopped while they waited
+		l.lose(lines)
 		return
 	}
-	file, text := l.file, append(bytes.Join(one.lines, []byte("\n")), '\n')
+	text := l.text[:0]
+	for _, line := range lines {
+		text = append(append(text, line...), '\n')
+	}
+	file := l.file
+	l.text = text // one at a time writes
 	err := l.reserve(len(text))
 	if err == nil {
 		l.mutex.Unlock()
@@ -372,7 +398,7 @@ func (l *callLog) write(one *batch) {
 		l.mutex.Lock()
 	}
 	if err != nil {
-		l.lose(one.lines)
+		l.lose(lines)
 		l.stop(err)
 		return
 	}

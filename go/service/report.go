@@ -89,10 +89,11 @@ func (t *Task) drained(isDrained bool) {
 
 // told returns what a report says, and begins to count loads anew.
 func (t *Task) told() map[string]any {
+	counted := t.desks.takeLoads()
 	t.mutex.Lock()
 	defer t.mutex.Unlock()
-	parts := make([]uint64, 0, len(t.loads))
-	for part := range t.loads {
+	parts := make([]uint64, 0, len(counted))
+	for part := range counted {
 		parts = append(parts, part)
 	}
 	sort.Slice(parts, func(one, other int) bool { return parts[one] < parts[other] })
@@ -100,9 +101,8 @@ func (t *Task) told() map[string]any {
 	loads := make([][3]any, 0, len(parts))
 	for _, part := range parts {
 		first, end := fmt.Sprint(part*width), fmt.Sprint((part+1)*width)
-		loads = append(loads, [3]any{first, end, t.loads[part]})
+		loads = append(loads, [3]any{first, end, counted[part]})
 	}
-	t.loads = map[uint64]uint64{}
 	made := map[string]any{
 		"task": t.config.Task, "loads": loads, "denied": t.counts.Denied, "clock_behind": t.counts.ClockBehind,
 	}

@@ -19,13 +19,14 @@ type Lease struct {
 	isLogged bool
 	handle   hourstable.Handle
 	leases   *leases
+	desk     *desk
 	task     *Task
 }
 
 // Check returns ErrLeaseLost unless the task has held the key since the answer was
 // begun, and still does. Call it just before each write that others see.
 func (l *Lease) Check() error {
-	if l.task.life() != l.leases {
+	if l.task.admits.Load().leases != l.leases {
 		return ErrLeaseLost // another life, whose slicelet did not give the handle
 	}
 	err := l.leases.check(l)
@@ -61,14 +62,15 @@ func (t *Task) Serving(ctx context.Context, key string, answer func(context.Cont
 // so that who gives up the key either denies it or waits for its end.
 func (t *Task) enter(key string) (*Lease, error) {
 	lease := &Lease{
-		Key: key, sliceKey: hourstable.SliceKey([]byte(key)), task: t, isLogged: random() < t.config.Sample,
+		Key: key, sliceKey: hourstable.SliceKey([]byte(key)), task: t,
+		isLogged: t.config.Sample >= 1 || random() < t.config.Sample,
 	}
 	if err := t.admit(lease); err != nil {
 		return nil, err
 	}
 	err := lease.leases.enter(lease)
 	if err == nil {
-		t.count(lease)
+		lease.desk.count(lease.sliceKey)
 		return lease, nil
 	}
 	t.leave(lease)
@@ -85,30 +87,33 @@ func (t *Task) enter(key string) (*Lease, error) {
 	return nil, err
 }
 
-// admit counts a question, and puts its lease among the open ones unless its key is
-// given up.
-func (t *Task) admit(lease *Lease) error {
-	t.mutex.Lock()
-	defer t.mutex.Unlock()
-	t.counts.Requests++
-	if holds(t.moving, lease.sliceKey) {
-		t.counts.Denied["moving"]++
-		return &Denied{lease.Key, "moving", ErrMoving}
-	}
-	if t.leases == nil {
-		t.counts.Denied["down"]++
-		return &Denied{lease.Key, "down", hourstable.ErrDown}
-	}
-	lease.leases = t.leases
-	t.open[lease] = struct{}{}
-	return nil
+// admission is what decides whether a question is asked at all.
+type admission struct {
+	leases *leases
+	moving []hourstable.Range
 }
 
-// count counts an answer for the loads.
-func (t *Task) count(lease *Lease) {
-	t.mutex.Lock()
-	defer t.mutex.Unlock()
-	t.loads[lease.sliceKey>>(63-loadBits)]++
+// publish lets questions see the leases and the moving keys; the mutex is held.
+func (t *Task) publish() { t.admits.Store(&admission{t.leases, t.moving}) }
+
+// admit counts a question, and puts its lease among the open ones unless its key is
+// given up: who gives up a key publishes it before it looks at the desks.
+func (t *Task) admit(lease *Lease) error {
+	desk := t.desks.take()
+	defer t.desks.free.Put(desk)
+	desk.mutex.Lock()
+	defer desk.mutex.Unlock()
+	desk.requests++
+	admits := t.admits.Load()
+	if holds(admits.moving, lease.sliceKey) {
+		return t.denied(lease.Key, "moving", ErrMoving)
+	}
+	if admits.leases == nil {
+		return t.denied(lease.Key, "down", hourstable.ErrDown)
+	}
+	lease.leases, lease.desk = admits.leases, desk
+	desk.open[lease] = struct{}{}
+	return nil
 }
 
 // denied counts a denial.
@@ -120,8 +125,8 @@ func (t *Task) denied(key, ground string, cause error) error {
 }
 
 func (t *Task) leave(lease *Lease) {
-	t.mutex.Lock()
-	delete(t.open, lease)
-	t.mutex.Unlock()
+	lease.desk.mutex.Lock()
+	delete(lease.desk.open, lease)
+	lease.desk.mutex.Unlock()
 	wake(t.left)
 }

@@ -7,6 +7,7 @@ import (
 	"net/http"
 	"path/filepath"
 	"sync"
+	"sync/atomic"
 	"time"
 
 	"hourstable"
@@ -76,10 +77,11 @@ type Task struct {
 	isDrained  bool // an operator drains it, and it has no keys
 	isStopped  bool
 	cutOff     time.Time // since when no control plane gives leases; zero if one does
-	open       map[*Lease]struct{}
 	left       chan struct{}
-	loads      map[uint64]uint64
-	counts     Counts
+	counts     Counts // but for Requests, which desks count
+
+	desks  desks
+	admits atomic.Pointer[admission] // of leases and moving, which publish sets
 }
 
 // lateAnswer is an answer to a call for a grant that came after another one.
@@ -109,9 +111,10 @@ func NewTask(config TaskConfig) (*Task, error) {
 	}
 	made := &Task{
 		config: config, tickets: drawn, supervisor: newSupervisor(config.Logger), woken: make(chan struct{}, 1),
-		left: make(chan struct{}, 1), open: map[*Lease]struct{}{}, loads: map[uint64]uint64{},
+		left:   make(chan struct{}, 1),
 		counts: Counts{Denied: map[string]uint64{}, Heard: map[string]uint64{}},
 	}
+	made.publish()
 	made.lasting, made.stop = context.WithCancel(context.Background())
 	made.control = newControl(config.Control, config.Job)
 	made.control.secret, made.control.client, made.control.logger = config.Secret, config.Client, config.Logger

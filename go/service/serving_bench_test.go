@@ -1,0 +1,92 @@
+package service
+
+import (
+	"context"
+	"fmt"
+	"path/filepath"
+	"runtime"
+	"syscall"
+	"testing"
+
+	"hourstable"
+)
+
+// servingTask returns a task that may serve every key, and follows no table.
+func servingTask(b *testing.B, hasLog bool) *Task {
+	b.Helper()
+	config := TaskConfig{Control: []string{"http://127.0.0.1:1"}, Job: "shop", Task: 1}
+	folder := b.TempDir()
+	if hasLog {
+		config.Logs = folder
+	}
+	task, err := NewTask(config)
+	must(b, err)
+	b.Cleanup(task.end)
+	if hasLog {
+		task.log, err = openLog(filepath.Join(folder, "shop"), "task-1", []byte(`{"job":{}}`), func(why error) { b.Error(why) })
+		must(b, err)
+	}
+	clock, err := hourstable.NewTaskClock(task.config.Drift, 1<<40)
+	must(b, err)
+	held := &leases{
+		job: "shop", task: 1, life: 1, clock: clock, local: task.config.local, tickets: task.tickets, log: task.log,
+	}
+	must(b, held.begin(0))
+	sent, err := held.local()
+	must(b, err)
+	reading := uint64(5)
+	must(b, held.sample(answer{sent: sent, reading: &reading}))
+	must(b, held.start())
+	message := []byte(fmt.Sprintf(`{"job":"shop","type":"grant","value":{"ends":"%d","generation":"1","kind":"guard",`+
+		`"life":1,"number":"1","ranges":[["0","%d"]],"task":1,"until":"%d"},"version":2}`, 1<<32, keys, 1<<32))
+	grant, err := grantOf("shop", message)
+	must(b, err)
+	policy := hourstable.Policy{Low: 1, High: 1, Guard: 1 << 32, Bridge: 1 << 32, Job: 1 << 32, Numbers: 9}
+	if isHeard, err := held.hear(message, grant, policy); err != nil || !isHeard {
+		b.Fatal(isHeard, err)
+	}
+	task.leases = held
+	task.publish()
+	return task
+}
+
+func must(b *testing.B, err error) {
+	b.Helper()
+	if err != nil {
+		b.Fatal(err)
+	}
+}
+
+// processorTime returns the nanoseconds that this process has used of the processors.
+func processorTime() int64 {
+	var used syscall.Rusage
+	syscall.Getrusage(syscall.RUSAGE_SELF, &used)
+	return used.Utime.Nano() + used.Stime.Nano()
+}
+
+// A block of Serving, by the time of the processor and by the wall: alone, and by four goroutines
+// side by side.
+func BenchmarkServing(b *testing.B) {
+	for _, hasLog := range []bool{false, true} {
+		for _, goroutines := range []int{1, 4} {
+			b.Run(fmt.Sprintf("log=%v/goroutines=%d", hasLog, goroutines), func(b *testing.B) {
+				task := servingTask(b, hasLog)
+				answer := func(context.Context, *Lease) error { return nil }
+				defer runtime.GOMAXPROCS(runtime.GOMAXPROCS(goroutines))
+				b.SetParallelism(1)
+				b.ReportAllocs()
+				begun := processorTime()
+				b.ResetTimer()
+				b.RunParallel(func(pb *testing.PB) {
+					for pb.Next() {
+						if err := task.Serving(context.Background(), "a key of 20 bytes, 1", answer); err != nil {
+							b.Error(err)
+							return
+						}
+					}
+				})
+				b.ReportMetric(float64(processorTime()-begun)/float64(b.N), "cpu-ns/op")
+			})
+		}
+	}
+}
