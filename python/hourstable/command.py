@@ -9,11 +9,13 @@ import signal
 import ssl
 import sys
 from collections.abc import Sequence
+from functools import partial
 from pathlib import Path
 
 from hourstable import context, installed, logs
 from hourstable.assigner import AssignerOfJobs
 from hourstable.auditing import Audit
+from hourstable.callers import Callers, secrets_in, warn_if_open
 from hourstable.clock import local_clock
 from hourstable.desk import HttpDesk, Unreachable
 from hourstable.limits import Limits
@@ -88,12 +90,7 @@ def _control_words(words: argparse.ArgumentParser) -> None:
                        help="for how long another plane wrote nothing before this one takes over")
     words.add_argument("--assigner", type=int, default=1, metavar="N",
                        help="the number of its assigner, 0 for none (1)")
-    words.add_argument("--secret-file", metavar="FILE",
-                       help="each line is a secret that is accepted")
-    words.add_argument("--tls-cert", metavar="FILE", help="its certificate: HTTPS")
-    words.add_argument("--tls-key", metavar="FILE", help="the key of its certificate")
-    words.add_argument("--tls-client-ca", metavar="FILE",
-                       help="callers need a certificate of this authority")
+    _access_words(words)
     limits = Limits()
     words.add_argument("--most-jobs", type=int, default=limits.jobs, metavar="N")
     words.add_argument("--most-connections", type=int, default=limits.connections, metavar="N")
@@ -102,6 +99,19 @@ def _control_words(words: argparse.ArgumentParser) -> None:
     words.add_argument("--grants", type=float, default=limits.grants, metavar="RATE",
                        help="grants a second of a task")
     _rule_words(words)
+
+
+def _access_words(words: argparse.ArgumentParser) -> None:
+    words.add_argument("--callers", metavar="FILE",
+                       help="who may do what, in TOML: each caller has a role, and a secret or a certificate")
+    words.add_argument("--secret-file", metavar="FILE",
+                       help="each line is a secret of callers who may do everything")
+    words.add_argument("--host", metavar="NAME", action="append", default=[],
+                       help="by which callers reach the plane; again for each other one (addresses are always right)")
+    words.add_argument("--tls-cert", metavar="FILE", help="its certificate: HTTPS")
+    words.add_argument("--tls-key", metavar="FILE", help="the key of its certificate")
+    words.add_argument("--tls-client-ca", metavar="FILE",
+                       help="callers show a certificate of this authority; with a secret of --callers they need none")
 
 
 def _rule_words(words: argparse.ArgumentParser) -> None:
@@ -224,12 +234,12 @@ def options_of(chosen: argparse.Namespace) -> Options:
         jobs=chosen.most_jobs, connections=chosen.most_connections, peer=chosen.most_connections_of_peer,
         grants=chosen.grants, burst=2 * chosen.grants,
     )
+    callers, tls = access_of(chosen)
     return Options(
         store_in(chosen), chosen.logs, host.strip("[]"), int(port),
         process=process_number(chosen.process), shared=chosen.shared, standby=chosen.standby,
-        assigner=chosen.assigner,
-        secrets=secrets_in(chosen.secret_file) if chosen.secret_file else [],
-        tls=server_tls(chosen), limits=limits, rules=_rules_in(chosen),
+        assigner=chosen.assigner, callers=callers, hosts=[host, *chosen.host],
+        tls=tls, limits=limits, rules=_rules_in(chosen),
         store_deadline=chosen.store_deadline, state=chosen.state, keep_logs=chosen.keep_logs,
     )
 
@@ -237,6 +247,7 @@ def options_of(chosen: argparse.Namespace) -> Options:
 def store_in(chosen: argparse.Namespace) -> str:
     """Returns the URL of the store. Raises ValueError, also if a password stands where other users read it."""
     if chosen.store_file:
+        warn_if_open(chosen.store_file)
         with open(chosen.store_file, encoding="utf-8") as file:
             return file.readline().strip()
     if chosen.store and password_in(chosen.store):
@@ -252,16 +263,14 @@ def store_in(chosen: argparse.Namespace) -> str:
 
 async def _run_control(chosen: argparse.Namespace) -> int:
     """Runs a control plane until the process is told to end."""
-    ended, options = signalled(), options_of(chosen)
+    ended, again, options = signalled(), hung_up(), options_of(chosen)
     raise_open_files(chosen.most_connections)
     running = ControlPlane(options)
     port = await running.start()
+    running.reload_at(again, partial(access_of, chosen))
     url = f"{'https' if options.tls else 'http'}://{chosen.listen.rpartition(':')[0]}:{port}"
     print(f"listening on {url}", flush=True)
-    if not options.secrets and not chosen.tls_client_ca:
-        logging.getLogger("hourstable").warning(
-            "callers are not known: set --secret-file or --tls-client-ca"
-        )
+    warn_of_callers(chosen)
     await ended.wait()
     await running.stop()
     return 0
@@ -288,27 +297,50 @@ def signalled() -> asyncio.Event:
     return ended
 
 
-def secrets_in(path: str) -> list[str]:
-    """Returns the secrets of a file, one a line. Raises ValueError if it has none, or a short
-    one."""
-    with open(path, encoding="ascii") as file:
-        secrets = [line.strip() for line in file if line.strip()]
-    if not secrets or min(map(len, secrets)) < 16:
-        raise ValueError(f"{path}: a secret has at least 16 characters")
-    return secrets
+def hung_up() -> asyncio.Event:
+    """Returns what is set at SIGHUP from now on."""
+    again = asyncio.Event()
+    asyncio.get_running_loop().add_signal_handler(signal.SIGHUP, again.set)
+    return again
 
 
-def server_tls(chosen: argparse.Namespace) -> ssl.SSLContext | None:
+def access_of(chosen: argparse.Namespace) -> tuple[Callers, ssl.SSLContext | None]:
+    """Reads the callers of a plane, and its certificates. Raises OSError and ValueError."""
+    callers = Callers.admins(secrets_in(chosen.secret_file)) if chosen.secret_file else Callers()
+    if chosen.callers:
+        callers += Callers.read(chosen.callers)
+    return callers, server_tls(chosen, callers)
+
+
+def warn_of_callers(chosen: argparse.Namespace) -> None:
+    """Says at the start who may do everything, if that is more than the admins of --callers."""
+    who = {
+        "everybody who reaches the plane": not (chosen.callers or chosen.secret_file or chosen.tls_client_ca),
+        "everybody with a secret of --secret-file": chosen.secret_file,
+        "everybody with a certificate of --tls-client-ca":
+            chosen.tls_client_ca and not (chosen.callers or chosen.secret_file),
+    }
+    for some in (some for some, is_so in who.items() if is_so):
+        logging.getLogger("hourstable").warning("%s may do everything: give each caller a role by --callers", some)
+
+
+def server_tls(chosen: argparse.Namespace, callers: Callers) -> ssl.SSLContext | None:
+    """Returns how the plane speaks TLS. With callers of --callers who are known by a secret, nobody has to show a
+    certificate. Raises OSError and ValueError."""
+    if callers.have_certificates() and not chosen.tls_client_ca:
+        raise ValueError("a caller with a certificate needs --tls-client-ca, the authority of that")
     if not chosen.tls_cert:
         if chosen.tls_key or chosen.tls_client_ca:
             raise ValueError("--tls-key and --tls-client-ca go with --tls-cert")
         return None
+    warn_if_open(chosen.tls_key or chosen.tls_cert)
     tls = ssl.SSLContext(ssl.PROTOCOL_TLS_SERVER)
     tls.minimum_version = ssl.TLSVersion.TLSv1_2
     tls.load_cert_chain(chosen.tls_cert, chosen.tls_key)
     if chosen.tls_client_ca:
         tls.load_verify_locations(chosen.tls_client_ca)
-        tls.verify_mode = ssl.CERT_REQUIRED
+        is_optional = chosen.callers and callers.have_secrets()
+        tls.verify_mode = ssl.CERT_OPTIONAL if is_optional else ssl.CERT_REQUIRED
     return tls
 
 

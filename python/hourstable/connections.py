@@ -171,7 +171,7 @@ class Door(asyncio.Protocol):
         if self._timer is not None:
             self._timer.cancel()
         self._timer = self._loop.call_later(first, self._is_late)
-        if tls.verify_mode == ssl.CERT_REQUIRED:
+        if secure.get_extra_info("peercert"):
             self._connections.know(self.peer)
         self._let_in(secure)
 

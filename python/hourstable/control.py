@@ -5,23 +5,24 @@ a call of the library; this module carries, stores, limits and counts.
 """
 
 import asyncio
-import hmac
 import json
 import logging
 import ssl
-from collections.abc import Awaitable, Callable
+from collections.abc import Awaitable, Callable, Sequence
 from dataclasses import dataclass, field
 from functools import partial
 from typing import Any, TypeVar
 
 from aiohttp import web
 
-from hourstable import page
+from hourstable import page, roles
 from hourstable import tickets as ticketing
+from hourstable.access import Access, Turned, caller_in, look_at_task, route_of
 from hourstable.answers import (
     KEY, LIVES, TASKS, answer_of, asked_in, failure, job_in, json_of, member, message_of, name_in, not_admitted,
     number_in, refused, told, word_in,
 )
+from hourstable.callers import Callers, Role
 from hourstable.connections import BACKLOG, Connections
 from hourstable.context import note
 from hourstable.failures import Failures
@@ -51,7 +52,6 @@ MOST_KEY = 4096  # characters of a key that is asked about
 MOST_GRANTS = 1024  # of one request
 LEAST_GUARD = 100  # milliseconds of a new job: who takes them for seconds is told
 LINGERING = 1.0  # seconds for which what is left of a body is read after the answer
-PUBLIC = {"/healthz", "/readyz", *page.FILES}  # what is answered without a secret
 PAGES = {  # what people look at
     *page.FILES, "/overview", "/jobs/{job}/leases", "/jobs/{job}/slices", "/jobs/{job}/key",
 }
@@ -63,7 +63,7 @@ REFUSED = (  # what says nothing against a job
     Malformed, NoSuchJob, Conflict, LivesSpent, Limited, Replaced, NotAdmitted, WrongKey,
 )
 EXPECTED = StoreFailed, OSError, MemoryError, Malformed, ValueError  # of a job that fails, or of its store
-ANSWERED = (*REFUSED, StoreFailed, OSError, MemoryError, web.HTTPException)
+ANSWERED = (*REFUSED, Turned, StoreFailed, OSError, MemoryError, web.HTTPException)
 
 
 @dataclass
@@ -99,7 +99,7 @@ class Plane:
 
     def __init__(
         self, store: Store, settings: Settings, tickets: Tickets, limits: Limits | None = None,
-        secrets: list[str] | None = None,
+        callers: Callers | None = None, hosts: Sequence[str] = (),
     ) -> None:
         self.store, self.settings, self.tickets = store, settings, tickets
         self.limits = limits or Limits()
@@ -110,7 +110,7 @@ class Plane:
         self.readiness = Readiness(store, settings.system)
         self.record = Record(None, settings.system)
         self.waits = Waits(tickets, self._now)
-        self._secrets = [secret.encode() for secret in secrets or []]
+        self.access = Access(callers or Callers(), hosts, self.metrics, self._now)
         self._runner: web.AppRunner | None = None
         self._server: asyncio.Server | None = None
         self.connections: Connections | None = None
@@ -161,6 +161,12 @@ class Plane:
                 one.cancel()
         for followed in self.jobs.values():
             followed.job.close()
+
+    def admit(self, callers: Callers, tls: ssl.SSLContext | None) -> None:
+        """Takes other callers from now on, and certificates for new connections."""
+        self.access.callers = callers
+        if self.connections is not None:
+            self.connections.tls = tls
 
     def idle(self) -> bool:
         """Whether no call of a job waits, and nothing of one is being read, made or stored."""
@@ -386,13 +392,13 @@ class Plane:
 
     @web.middleware
     async def _around(self, request: web.Request, handler: Handler) -> web.StreamResponse:
-        """Checks the secret, observes the ticket, and counts. What is answered without a secret
-        observes no ticket, so that a stranger does not move those of the plane."""
-        begun, is_public = self._now(), request.path in PUBLIC
-        if not is_public and not self._knows(request):
-            self.metrics.unauthorized.inc()
-            answer = failure(401, "the secret is missing or wrong")
-            answer.headers["WWW-Authenticate"] = "Bearer"
+        """Finds out who calls, observes the ticket, and counts. What everybody may have observes no ticket, so that
+        a stranger does not move those of the plane."""
+        begun, is_public = self._now(), roles.is_public(route_of(request))
+        try:
+            self.access.know(request)
+        except Turned as turned:
+            answer = self._failure_of(request, turned)
             answer.force_close()
             return answer
         try:
@@ -407,17 +413,11 @@ class Plane:
             self.metrics.request_seconds.labels(call).observe(self._now() - begun)
         return made
 
-    def _knows(self, request: web.Request) -> bool:
-        if not self._secrets:
-            return True
-        given = request.headers.get("Authorization", "").encode("utf-8", "surrogateescape")
-        equal = [hmac.compare_digest(given, b"Bearer " + secret) for secret in self._secrets]
-        return any(equal)
-
     async def _answered(self, request: web.Request, handler: Handler) -> web.StreamResponse:
         """Answers what a handler raises. What nobody expected is counted, and aiohttp answers 500."""
         try:
             await self._take_whole(request)
+            self.access.admit(request)
             self._leave_out(request)
             return await handler(request)
         except ANSWERED as error:
@@ -436,7 +436,7 @@ class Plane:
             except (web.RequestPayloadError, ConnectionError):
                 raise web.HTTPBadRequest from None
         if self.connections is not None:
-            self.connections.heard(request.protocol, request.path not in PUBLIC)
+            self.connections.heard(request.protocol, not roles.is_public(route_of(request)))
 
     def _leave_out(self, request: web.Request) -> None:
         """Raises Limited for a request that is left out under overload: pages first, then calls that wait."""
@@ -465,6 +465,12 @@ class Plane:
     def _failure_of(self, request: web.Request, error: Exception) -> web.Response:
         """Returns the answer to a request that raised one of ANSWERED."""
         match error:
+            case Turned():
+                self.access.turned(request, error)
+                made = failure(error.status, str(error))
+                if error.status == 401:
+                    made.headers["WWW-Authenticate"] = "Bearer"
+                return made
             case Malformed():
                 return failure(400, str(error))
             case NoSuchJob():
@@ -504,34 +510,51 @@ class Plane:
         return web.Response(text="ok\n")
 
     async def _readyz(self, request: web.Request) -> web.Response:
-        is_ready, shown = await self.readiness.shown(self._knows(request))
+        is_ready, shown = await self.readiness.shown(self.access.reads_all(request))
         is_ready = shown["ready"] = is_ready and not self.waits.is_closing
         return answer_of(shown, 200 if is_ready else 503)
 
     async def _get_record(self, request: web.Request) -> web.Response:
-        return answer_of({"record": self.record.newest(request.query.get("job"))})
+        caller = caller_in(request)
+        entries = self.record.newest(request.query.get("job"))
+        return answer_of({"record": [entry for entry in entries if caller.has(entry["job"])]})
 
-    async def _metrics(self, _: web.Request) -> web.Response:
+    async def _metrics(self, request: web.Request) -> web.Response:
         if self.connections is not None:
             self.metrics.connections.set(len(self.connections))
-        text = self.metrics.text(self.shown(), self.tickets.left_out)
+        text = self.metrics.text(self.shown(), self.tickets.left_out, caller_in(request).jobs)
         return web.Response(body=text, headers={"Content-Type": CONTENT_TYPE})
 
-    async def _get_jobs(self, _: web.Request) -> web.Response:
-        return answer_of({"jobs": await self.store.jobs()})
+    async def _get_jobs(self, request: web.Request) -> web.Response:
+        caller = caller_in(request)
+        return answer_of({"jobs": [name for name in await self.store.jobs() if caller.has(name)]})
 
     async def _put_job(self, request: web.Request) -> web.Response:
-        is_new = await self.create(job_in(request), await json_of(request))
-        return answer_of({}, 201 if is_new else 200)
+        name, given = job_in(request), await json_of(request)
+        if caller_in(request).role is Role.ADMIN:
+            return answer_of({}, 201 if await self.create(name, given) else 200)
+        await self._compare(name, given)
+        return answer_of({})
+
+    async def _compare(self, name: str, given: object) -> None:
+        """Raises Conflict if a job has another policy, and Turned if there is none: who is no admin creates none."""
+        _, members = policy_of(given)
+        try:
+            job = (await self.followed(name)).job
+        except NoSuchJob:
+            raise Turned(403, f"there is no job {name}, and only an admin creates one") from None
+        if job.members != members:
+            raise Conflict("the job has another policy")
 
     async def _get_job(self, request: web.Request) -> web.Response:
         return answer_of(await self.status(job_in(request)))
 
-    async def _get_overview(self, _: web.Request) -> web.Response:
-        now, failures = self._now(), self.failures
+    async def _get_overview(self, request: web.Request) -> web.Response:
+        now, failures, caller = self._now(), self.failures, caller_in(request)
         made = [page.overview_of(it, now, failures.of(it.job.name)) for it in self.jobs.values()]
         made += [page.overview_of_failed(it, now, failures.of(it)) for it in failures if it not in self.jobs]
-        return answer_of({"jobs": sorted(made, key=lambda it: str(it["job"]))})
+        shown = [it for it in made if caller.has(it["job"])]
+        return answer_of({"jobs": sorted(shown, key=lambda it: str(it["job"]))})
 
     async def _get_leases(self, request: web.Request) -> web.Response:
         followed = await self.followed(job_in(request))
@@ -576,8 +599,7 @@ class Plane:
 
     async def _post_loads(self, request: web.Request) -> web.Response:
         followed, given = await self.followed(job_in(request)), await json_of(request)
-        task = member(given, "task", TASKS)
-        note(task=task)
+        task = task_in(request, given)
         life = member(given, "life", LIVES) if "life" in given else 0
         followed.job.rights.check(task, life, word_in(given, "key"))
         try:
@@ -590,8 +612,7 @@ class Plane:
 
     async def _post_drain(self, request: web.Request) -> web.Response:
         followed, given = await self.followed(job_in(request)), await json_of(request)
-        task = member(given, "task", TASKS)
-        note(task=task)
+        task = task_in(request, given)
         await followed.job.drain(task)
         self.record.add("drain", followed.job.name, task=task, life=followed.job.lives[task].life)
         return web.Response(status=204)
@@ -601,6 +622,7 @@ class Plane:
         text = request.match_info["task"]
         if not (text.isascii() and text.isdigit() and len(text) <= 2 and int(text) in TASKS):
             raise Malformed("a task is 1 to 64")
+        look_at_task(request, followed.job.name, int(text))
         life, key = await followed.job.raise_life(int(text))
         self.record.add("begin", followed.job.name, task=int(text), life=life)
         made: dict[str, Any] = {"life": life, "last": life - 1}
@@ -609,6 +631,7 @@ class Plane:
     async def _post_grant(self, request: web.Request) -> web.Response:
         name, asked = job_in(request), asked_in(await json_of(request))
         note(task=asked.task)
+        look_at_task(request, name, asked.task)
         made = await self._in_time(await self.begin_grant(name, asked))
         return told(made, message_of)
 
@@ -617,19 +640,21 @@ class Plane:
         asked = (await json_of(request)).get("grants")
         if not isinstance(asked, list) or not 1 <= len(asked) <= MOST_GRANTS:
             raise Malformed(f"grants is no list of 1 to {MOST_GRANTS}")
-        begun = [await self._begun(one) for one in asked]
+        begun = [await self._begun(request, one) for one in asked]
         waiting = [one for one in begun if isinstance(one, asyncio.Future)]
         if waiting:
             await asyncio.wait(waiting, timeout=self.limits.patience)
         answers = [self._grant_part(request, one) for one in begun]
         return message_of(b'{"answers":[%s]}' % b",".join(answers))
 
-    async def _begun(self, asked: object) -> "asyncio.Future[Made[bytes]] | Exception":
+    async def _begun(self, request: web.Request, asked: object) -> "asyncio.Future[Made[bytes]] | Exception":
         """Asks for one of several grants, or says why that is not done."""
         try:
             if not isinstance(asked, dict):
                 raise Malformed("a grant is no object")
-            return await self.begin_grant(name_in(asked.get("job")), asked_in(asked))
+            name, part = name_in(asked.get("job")), asked_in(asked)
+            look_at_task(request, name, part.task)
+            return await self.begin_grant(name, part)
         except Exception as error:  # of this one alone
             return error
 
@@ -655,7 +680,9 @@ class Plane:
 
     async def _post_free(self, request: web.Request) -> web.Response:
         job = (await self.followed(job_in(request))).job
-        made = await self.call(job, Free(await request.read(), request.headers.get(KEY, "")))
+        call = Free(await request.read(), request.headers.get(KEY, ""))
+        look_at_task(request, job.name, call.task)
+        made = await self.call(job, call)
         return told(made, lambda freed: answer_of({"freed": freed}))
 
     async def _post_take(self, request: web.Request) -> web.Response:
@@ -683,6 +710,14 @@ class Plane:
             generation = member(given, "generation", range(1, 1 << 64))
         made = await self.call(job, Commit(member(given, "term", range(1 << 64)), generation))
         return told(made, lambda committed: answer_of({"generation": committed}))
+
+
+def task_in(request: web.Request, given: dict[str, Any]) -> int:
+    """Returns the task that a body names. Raises Malformed, and Turned if the caller may not act for it."""
+    task = member(given, "task", TASKS)
+    note(task=task)
+    look_at_task(request, job_in(request), task)
+    return task
 
 
 def may_wait(request: web.Request, route: str) -> bool:

@@ -29,6 +29,7 @@ COUNTERS = {  # of metrics that are 0 where all is well, and what they mean
     "hourstable_internal_errors_total": "something failed that nobody expected: its traceback is in the log",
     "hourstable_store_failures_total": "calls of the store failed since the start of the plane",
     "hourstable_unauthorized_total": "somebody calls without a right secret",
+    "hourstable_forbidden_total": "a caller asks for what its role does not allow, or a page of elsewhere calls",
     "hourstable_limited_total": "requests were beyond a limit (--grants, --most-connections, --most-jobs)",
 }
 SAMPLE = re.compile(r"^(\w+)(?:\{[^}]*\})? ([0-9.e+-]+)$", re.MULTILINE)

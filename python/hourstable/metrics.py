@@ -1,9 +1,10 @@
 """The metrics of a control plane, in the text form of Prometheus."""
 
-from collections.abc import Iterable
+from collections.abc import Iterable, Iterator
 
-from prometheus_client import CollectorRegistry, Counter, Gauge, Histogram, generate_latest
+from prometheus_client import CollectorRegistry, Counter, Gauge, Histogram, Metric, generate_latest
 from prometheus_client.exposition import CONTENT_TYPE_LATEST
+from prometheus_client.registry import Collector
 
 from hourstable.jobs import Counters
 from hourstable.library import library_version
@@ -51,6 +52,14 @@ class Metrics(Counters):
         )
         self.unauthorized = Counter(
             "hourstable_unauthorized", "Requests without a right secret.", registry=registry
+        )
+        self.forbidden = Counter(
+            "hourstable_forbidden", "Requests that their caller may not make, or that a page of elsewhere made.",
+            registry=registry,
+        )
+        self.reloads = Counter(
+            "hourstable_reloads", "Times that callers and certificates were read again, and whether that was done.",
+            ["result"], registry=registry,
         )
         self.job_failures = Counter(
             "hourstable_job_failures", "Times that a job failed: its log, what is stored of it, or a call.",
@@ -111,14 +120,44 @@ class Metrics(Counters):
         """Counts an exception that nobody expected, as a supervisor caught it."""
         self.internal_errors.labels(where).inc()
 
-    def text(self, jobs: Iterable["Shown"], left_out: int = 0) -> bytes:
-        """Returns the text of all metrics. `left_out` is how many tickets the process has left out."""
+    def turned_away(self, status: int) -> None:
+        """Counts a request that is turned away: 401 if nobody is known by it."""
+        if status == 401:
+            self.unauthorized.inc()
+        else:
+            self.forbidden.inc()
+
+    def text(
+        self, jobs: Iterable["Shown"], left_out: int = 0, only: frozenset[str] | None = None
+    ) -> bytes:
+        """Returns the text of all metrics, or of those of some jobs alone. `left_out` is how many tickets the process
+        has left out."""
         self._tickets.inc(max(0, left_out - self._left_out))
         self._left_out = left_out
         for shown in jobs:
             self._gauges.show(shown)
-        made: bytes = generate_latest(self.registry)
+        shown_of = self.registry
+        if only is not None:
+            shown_of = CollectorRegistry()
+            shown_of.register(OfJobs(self.registry, only))
+        made: bytes = generate_latest(shown_of)
         return made
+
+
+class OfJobs(Collector):
+    """The metrics of some jobs, and none of the plane as a whole."""
+
+    def __init__(self, registry: CollectorRegistry, jobs: frozenset[str]) -> None:
+        self._registry, self._jobs = registry, jobs
+
+    def collect(self) -> Iterator[Metric]:
+        """Returns the metrics that have a sample of one of the jobs, with these samples."""
+        for metric in self._registry.collect():
+            samples = [sample for sample in metric.samples if sample.labels.get("job") in self._jobs]
+            if samples:
+                made = Metric(metric.name, metric.documentation, metric.type)
+                made.samples = samples
+                yield made
 
 
 class Shown:

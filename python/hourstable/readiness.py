@@ -66,13 +66,13 @@ class Readiness:
                 self._looked = self._now(), found
             return self._looked[1]
 
-    async def shown(self, knows: bool) -> tuple[bool, dict[str, object]]:
-        """Returns whether all is well, and what `/readyz` shows; what is wrong only to who knows the secret."""
+    async def shown(self, tells_all: bool) -> tuple[bool, dict[str, object]]:
+        """Returns whether all is well, and what `/readyz` shows; what is wrong only to who may read everything."""
         checks = await self.checks()
         is_ready = all(check.is_well for check in checks)
         shown: dict[str, object] = {"ready": is_ready}
         for check in checks:
-            shown[check.name] = check.found if check.is_well or knows else "fails"
+            shown[check.name] = check.found if check.is_well or tells_all else "fails"
         return is_ready, shown
 
     async def _said(self, look: Callable[[], Awaitable[str]]) -> str:

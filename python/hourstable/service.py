@@ -6,13 +6,17 @@
 It is what `hourstable-service control` runs. Several may run in one process, and each may be stopped and made anew.
 """
 
+import asyncio
+import logging
 import ssl
 from collections.abc import Awaitable, Callable
 from contextlib import AsyncExitStack
 from dataclasses import dataclass, field
+from functools import partial
 from pathlib import Path
 
 from hourstable.assigner import AssignerOfJobs
+from hourstable.callers import Callers
 from hourstable.clock import local_clock as local_clock_of
 from hourstable.control import Plane
 from hourstable.desk import LocalDesk
@@ -24,6 +28,9 @@ from hourstable.state import kept_in, state_folder
 from hourstable.store import DEADLINE, Store, open_store
 from hourstable.system import SYSTEM, System, make_folder
 from hourstable.tickets import CALLERS, Tickets
+
+Access = tuple[Callers, ssl.SSLContext | None]
+log = logging.getLogger("hourstable.service")
 
 
 @dataclass
@@ -38,7 +45,9 @@ class Options:
     shared: bool | None = None  # whether other planes use the store; None: if they may
     standby: float = 2.0  # seconds
     assigner: int = 1  # its number, 0 for none
-    secrets: list[str] = field(default_factory=list, repr=False)
+    secrets: list[str] = field(default_factory=list, repr=False)  # of callers who may do everything
+    callers: Callers = field(default_factory=Callers)  # and others, with their roles
+    hosts: list[str] = field(default_factory=list)  # names by which callers reach it, besides its addresses
     tls: ssl.SSLContext | None = None
     limits: Limits = field(default_factory=Limits)
     rules: Hysteresis = field(default_factory=Hysteresis)
@@ -96,7 +105,8 @@ class ControlPlane:
         settings = Settings(
             chosen.logs, process, shared, chosen.standby, local=local, system=system, keep_logs=chosen.keep_logs
         )
-        plane = self.plane = Plane(store, settings, tickets, chosen.limits, chosen.secrets)
+        callers = Callers.admins(chosen.secrets) + chosen.callers
+        plane = self.plane = Plane(store, settings, tickets, chosen.limits, callers, chosen.hosts)
         plane.readiness.folders = folders
         plane.record = Record(state / f"record-{process}.ndjson", system)
         ending.push_async_callback(plane.stop)
@@ -104,6 +114,12 @@ class ControlPlane:
         if chosen.assigner:
             plane.supervisor.watch("assigner", lambda: _assigner(chosen, plane, local, system).run())
         return port
+
+    def reload_at(self, again: asyncio.Event, read: Callable[[], Access]) -> None:
+        """Whenever the event is set, takes the callers and certificates that `read` returns in a thread. If it raises
+        OSError or ValueError, the plane keeps what it has, and says why. Connections that are open stay."""
+        assert self.plane is not None
+        self.plane.supervisor.watch("callers", partial(_reload, self.plane, again, read))
 
     async def stop(self) -> None:
         """Answers what was asked, and closes all."""
@@ -116,6 +132,21 @@ class ControlPlane:
 
     async def __aexit__(self, *_: object) -> None:
         await self.stop()
+
+
+async def _reload(plane: Plane, again: asyncio.Event, read: Callable[[], Access]) -> None:
+    while True:
+        await again.wait()
+        again.clear()
+        try:
+            callers, tls = await asyncio.to_thread(read)
+        except (OSError, ValueError) as error:  # those of TLS are of the first kind
+            log.error("callers and certificates stay as they are: %s", error)
+            plane.metrics.reloads.labels("failed").inc()
+        else:
+            plane.admit(callers, tls)
+            log.info("callers and certificates were read again: %d callers", len(callers.known))
+            plane.metrics.reloads.labels("done").inc()
 
 
 def _assigner(chosen: Options, plane: Plane, local: Callable[[], int], system: System) -> AssignerOfJobs:

@@ -82,6 +82,7 @@ class Free(Call[int]):
         self.note = self.message = note
         self.life_key, self.value, self.numbers = life_key, value_in(note), {}
         self.key: str = json.dumps(self.value, sort_keys=True)
+        self.task = _task_in(self.value)
 
     def admit(self, job: "Job", held: "Held", at: int) -> None:
         """Looks whether the note is of the task's own life, and one of an ended life not of that which is let in:
@@ -212,6 +213,14 @@ def value_in(message: bytes) -> dict[str, Any]:
     if not isinstance(value, dict):
         raise Malformed("the body is not a message")
     return value
+
+
+def _task_in(note: dict[str, Any]) -> int:
+    """Returns the task of a note; 0 if it names none, and the library says so."""
+    try:
+        return int(note["task"])
+    except (KeyError, TypeError, ValueError, OverflowError):
+        return 0
 
 
 def numbers_of(assignment: dict[str, Any]) -> dict[str, Any]:

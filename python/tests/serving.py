@@ -2,7 +2,7 @@
 
 import asyncio
 import json
-from collections.abc import AsyncIterator
+from collections.abc import AsyncIterator, Sequence
 from contextlib import asynccontextmanager
 from pathlib import Path
 from typing import Any, NamedTuple
@@ -10,6 +10,7 @@ from typing import Any, NamedTuple
 import aiohttp
 
 from hourstable import logs
+from hourstable.callers import Callers
 from hourstable.clock import local_clock
 from hourstable.control import Limits, Plane
 from hourstable.jobs import Settings
@@ -50,8 +51,9 @@ class Caller:
         self, method: str, path: str, body: object = None, headers: dict[str, str] | None = None,
     ) -> Answer:
         data = body if isinstance(body, bytes | None) else json.dumps(body).encode()
+        given = {"Content-Type": "application/json", **(headers or {})}
         async with self.session.request(
-            method, self.url + path, data=data, headers=headers
+            method, self.url + path, data=data, headers=given
         ) as answer:
             return Answer(answer.status, answer.headers, await answer.read())
 
@@ -101,13 +103,14 @@ async def running(
     store: Store, folder: Path | None, process: int = 0, shared: bool = False, standby: float = 0.3,
     limits: Limits | None = None, secrets: list[str] | None = None, ahead: tuple[int, int] = (0, 0),
     system: System = SYSTEM, poll: float = 0.05, state: Path | None = None,
+    callers: Callers | None = None, hosts: Sequence[str] = (),
 ) -> AsyncIterator[tuple[Plane, Caller]]:
     """A plane that listens, and a caller of it. With no folder of logs it has one for its state."""
     state = make_folder(state or folder.parent / "state")  # type: ignore[union-attr]
     tickets = Tickets(process, state / f"control-{process}.ticket", system=system)
     settings = Settings(folder, process, shared, standby, *ahead, local=local_clock(), system=system)
     generous = Limits(grants=1e6, burst=1e6)
-    plane = Plane(store, settings, tickets, limits or generous, secrets)
+    plane = Plane(store, settings, tickets, limits or generous, callers or Callers.admins(secrets or []), hosts)
     port = await plane.start("127.0.0.1", 0, poll=poll)
     try:
         async with aiohttp.ClientSession() as session:

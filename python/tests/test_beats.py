@@ -96,7 +96,8 @@ async def test_bytes_come_while_a_call_waits_and_then_its_answer(file: Store, tm
         term = await begun(caller)
         at = urlsplit(caller.url)
         reader, writer = await asyncio.open_connection(at.hostname, at.port)
-        request = f"GET /jobs/shop{NEXT} HTTP/1.1\r\nHost: plane\r\nHourstable-Beat: 1\r\nConnection: close\r\n\r\n"
+        head = "Host: 127.0.0.1\r\nHourstable-Beat: 1\r\nConnection: close\r\n"
+        request = f"GET /jobs/shop{NEXT} HTTP/1.1\r\n{head}\r\n"
         writer.write(request.encode())
         begins = time.monotonic()
         head = (await asyncio.wait_for(reader.readuntil(b"\r\n\r\n"), LATE)).decode()

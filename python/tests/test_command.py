@@ -129,7 +129,7 @@ def test_callers_with_certificates(certificates: Path) -> None:
         assert main([*drain, "shop", "1"]) == 3  # shows no certificate
         assert main([*drain, *shown, "shop", "1"]) == 3  # is heard, but there is no such job
         create = ["curl", "-sS", "-X", "PUT", "--cacert", f"{at}/ca.pem", f"{url}/jobs/shop",
-                  "-d", json.dumps(POLICY), "-o", "/dev/null", "-w", "%{http_code}"]
+                  "--json", json.dumps(POLICY), "-o", "/dev/null", "-w", "%{http_code}"]
         needed.command("curl")
         cert = ["--cert", f"{at}/caller.pem", "--key", f"{at}/caller.key"]
         assert subprocess.run(create, capture_output=True).returncode != 0

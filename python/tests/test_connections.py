@@ -107,8 +107,8 @@ async def test_silent_connections_deny_no_caller_that_authenticated(file: Store,
 
 
 @pytest.mark.parametrize("sent", [
-    b"", b"GET /jobs", b"GET /jobs HTTP/1.1\r\nHost: plane\r\n",
-    b"POST /jobs/shop/grant HTTP/1.1\r\nHost: plane\r\nContent-Length: 20\r\n\r\n{",
+    b"", b"GET /jobs", b"GET /jobs HTTP/1.1\r\nHost: 127.0.0.1\r\n",
+    b"POST /jobs/shop/grant HTTP/1.1\r\nHost: 127.0.0.1\r\nContent-Length: 20\r\n\r\n{",
 ])
 async def test_a_connection_has_some_seconds_for_its_first_whole_request(
     file: Store, tmp_path: Path, sent: bytes
@@ -127,11 +127,11 @@ async def test_a_later_request_may_come_late_but_not_its_body(file: Store, tmp_p
     async with running(file, tmp_path / "logs", limits=Limits(first=FIRST)) as (_, caller):
         one = await Silent.open(caller.url)
         for _ in range(2):
-            await one.says(b"GET /healthz HTTP/1.1\r\nHost: plane\r\n\r\n")
+            await one.says(b"GET /healthz HTTP/1.1\r\nHost: 127.0.0.1\r\n\r\n")
             answer = await asyncio.wait_for(one.reader.readuntil(b"ok\n"), LATE)
             assert answer.startswith(b"HTTP/1.1 200")
             await asyncio.sleep(1.5 * FIRST)
-        await one.says(b"PUT /jobs/shop HTTP/1.1\r\nHost: plane\r\nContent-Length: 9\r\n\r\n{")
+        await one.says(b"PUT /jobs/shop HTTP/1.1\r\nHost: 127.0.0.1\r\nContent-Length: 9\r\n\r\n{")
         assert (await one.end()).startswith(b"HTTP/1.1 408")
         one.close()
 
@@ -142,7 +142,7 @@ async def test_an_address_has_a_limit(file: Store, tmp_path: Path) -> None:
         async with silent(caller.url, ["127.0.0.7"] * 3):
             async with silent(caller.url, ["127.0.0.7", "127.0.0.8"]) as (fourth, other):
                 for one in (fourth, other):
-                    await one.says(b"GET /healthz HTTP/1.1\r\nHost: plane\r\nConnection: close\r\n\r\n")
+                    await one.says(b"GET /healthz HTTP/1.1\r\nHost: 127.0.0.1\r\nConnection: close\r\n\r\n")
                 told = await fourth.end()
                 assert told.startswith(b"HTTP/1.1 429") and b'"limit": "peer"' in told
                 assert (await other.end()).startswith(b"HTTP/1.1 200")
@@ -152,7 +152,7 @@ async def test_an_address_has_a_limit(file: Store, tmp_path: Path) -> None:
 async def test_connections_without_a_right_secret_are_closed(file: Store, tmp_path: Path) -> None:
     async with running(file, tmp_path / "logs", secrets=[SECRET]) as (plane, caller):
         one = await Silent.open(caller.url)
-        await one.says(b"GET /jobs HTTP/1.1\r\nHost: plane\r\nAuthorization: Bearer wrong\r\n\r\n")
+        await one.says(b"GET /jobs HTTP/1.1\r\nHost: 127.0.0.1\r\nAuthorization: Bearer wrong\r\n\r\n")
         assert (await one.end()).startswith(b"HTTP/1.1 401")
         one.close()
         assert plane.connections is not None and not plane.connections.is_known("127.0.0.9")

@@ -87,7 +87,7 @@ class Fuzzed:
     def send(self, method: bytes, path: bytes, head: bytes, body: bytes | None) -> int | None:
         heard = Heard()
         length = b"" if body is None else b"Content-Length: %d\r\n" % len(body)
-        text = b"%s %s HTTP/1.1\r\nHost: plane\r\n%s%s\r\n%s" % (method, path, length, head, body or b"")
+        text = b"%s %s HTTP/1.1\r\nHost: 127.0.0.1\r\n%s%s\r\n%s" % (method, path, length, head, body or b"")
         ends: list[Any] = []
 
         async def talk() -> None:

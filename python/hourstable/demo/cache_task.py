@@ -21,7 +21,7 @@ from typing import Any
 
 from aiohttp import web
 
-from hourstable.command import secrets_in
+from hourstable.callers import secrets_in
 from hourstable.demo.shelf import Session, Shelf, Taken
 from hourstable.library import slice_key
 from hourstable.ranges import Ranges, holds

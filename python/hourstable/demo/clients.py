@@ -14,9 +14,9 @@ from typing import Any
 
 import aiohttp
 
+from hourstable.callers import secrets_in
 from hourstable.calls import Unreachable
 from hourstable.client import Again, NoOwner, Router
-from hourstable.command import secrets_in
 from hourstable.waiting import within
 
 
