@@ -24,6 +24,7 @@ from .clock import local_clock as local_clock_of
 from .kept_log import KeptLog
 from .library import CALLS, Clerk, Found, LoggedCall, Refused, log_line, owners_of, slice_key
 from .logs import CLERKS, Log, folder_of, job_line
+from .state import tickets_in
 from .supervisor import Supervisor
 from .system import SYSTEM, System
 from .tickets import Tickets, follow, number_of_caller
@@ -50,10 +51,10 @@ class Router:
     It goes on whatever planes answer; `metrics` has what it counts. With `by_load` it picks, of several
     owners, the one to which the fewest attempts are underway, and else one at random. With `logs` it
     writes a log of its clerk, which is number `clerk` of the job, 1 to 128; `keep_logs` is for how many days
-    its files are kept, by default for ever. `process` is its number for its tickets, 64 to 255, by default 127 and
-    that of the clerk; a number outside these limits is a ValueError. `transport` brings its requests to planes in
-    place of HTTP, `local_clock` is the clock by which answers are timed, and `system` has its other clocks, chance
-    and files.
+    its files are kept, by default for ever. `state` is the folder of its tickets, as that of a task. `process` is
+    its number for its tickets, 64 to 255, by default 127 and that of the clerk; a number outside these limits is a
+    ValueError. `transport` brings its requests to planes in place of HTTP, `local_clock` is the clock by which
+    answers are timed, and `system` has its other clocks, chance and files.
     """
 
     def __init__(
@@ -64,6 +65,7 @@ class Router:
         by_load: bool = True,
         logs: str | os.PathLike[str] | None = None,
         keep_logs: int | None = None,
+        state: str | os.PathLike[str] | None = None,
         clerk: int = 1,
         process: int | None = None,
         secret: str | None = None,
@@ -79,7 +81,7 @@ class Router:
         self.metrics = RouterMetrics(job, clerk)
         self._logs, self._keep_logs, self._system = logs, keep_logs, system
         self._random = system.random()
-        self._tickets = self._tickets_of(process)
+        self._tickets = self._tickets_of(process, state)
         name = f"clerk {clerk}"
         self._control = Control(
             control, job, self._tickets, local_clock or local_clock_of(system=system),
@@ -97,13 +99,9 @@ class Router:
         self._underway: Counts[int] = Counts()
         self._changed = asyncio.Event()
 
-    def _tickets_of(self, process: int | None) -> Tickets:
+    def _tickets_of(self, process: int | None, state: str | os.PathLike[str] | None) -> Tickets:
         number = number_of_caller(FIRST_PROCESS + self.clerk - 1 if process is None else process)
-        if self._logs is None:
-            return Tickets(number, None, now=follow, system=self._system)
-        folder = folder_of(self._logs, self.job)
-        folder.mkdir(parents=True, exist_ok=True)
-        path = folder / f"clerk-{self.clerk}.ticket"
+        path = tickets_in(state, self._logs, self.job, f"clerk-{self.clerk}.ticket")
         return Tickets(number, path, now=follow, system=self._system)
 
     async def start(self) -> None:

@@ -5,6 +5,7 @@ import os
 import shutil
 from pathlib import Path
 
+from hourstable.logs import folder_of
 from hourstable.system import make_folder
 
 FOLDER = "STATE_DIRECTORY"  # the variable by which systemd names the folder of a unit's state
@@ -20,7 +21,7 @@ def state_folder(given: str | os.PathLike[str] | None, logs: str | os.PathLike[s
     elif logs is not None:
         folder = Path(logs).absolute().with_name(f"{Path(logs).absolute().name}.state")
     else:
-        raise ValueError("a control plane without logs needs a folder for its state (--state)")
+        raise ValueError("a process without logs needs a folder for its state (--state)")
     try:
         return make_folder(folder)
     except OSError as error:
@@ -37,3 +38,14 @@ def kept_in(folder: Path, name: str, before: Path) -> Path:
             fcntl.flock(file, fcntl.LOCK_EX | fcntl.LOCK_NB)
             shutil.move(old, path)
     return path
+
+
+def tickets_in(
+    state: str | os.PathLike[str] | None, logs: str | os.PathLike[str] | None, job: str, name: str
+) -> Path | None:
+    """Returns the path of the tickets of a task or a client of a job, in a folder of the job below that of state,
+    which is made; None if there is neither a folder of state nor one of logs. Raises as `kept_in` does."""
+    if state is None and logs is None:
+        return None
+    folder = make_folder(folder_of(state_folder(state, logs), job))
+    return kept_in(folder, name, folder if logs is None else folder_of(logs, job))

@@ -37,7 +37,7 @@ from .moves import Moves, OnGain, OnLose
 from .own_lives import OVERTAKEN, WAITING, Life, OwnLives
 from .phases import Phases
 from .ranges import KEYS, Ranges, holds, minus
-from .state import state_folder
+from .state import state_folder, tickets_in
 from .supervisor import Supervisor
 from .system import SYSTEM, System
 from .tickets import CALLERS, Tickets, follow, number_of_caller
@@ -168,11 +168,10 @@ class Task:
     """A task of a job. It runs from `start`, or from the entry of an `async with`, to `stop`.
 
     `control` is the URL of a control plane, or of several. `logs` is the folder of logs, which has
-    one for each job; the tickets of the task are kept there too. With None the task keeps neither.
-    `state` is the folder of its lock and its keys, with one for each job: by default $STATE_DIRECTORY, or
-    the one beside `logs` with the ending `.state`. While a process runs, no other one of its task starts with this
-    folder; one that is started again is let in at once. With neither folder it waits until the leases of the process
-    before have ended.
+    one for each job; with None the task keeps none. `state` is the folder of its lock, its keys and its tickets, with
+    one for each job: by default $STATE_DIRECTORY, or the one beside `logs` with the ending `.state`. While a process
+    runs, no other one of its task starts with this folder; one that is started again is let in at once. With neither
+    folder it keeps no tickets, and waits until the leases of the process before have ended.
     `sample` is the part of blocks that are logged, each with all of its calls or with none; other
     calls are always logged. `keep_logs` is for how many days its files are kept. `policy` creates the job if it is
     not there, and is compared if it is. `process` is the number of the process for its tickets, 64 to 255, by default
@@ -231,7 +230,7 @@ class Task:
         self._sample, self._keep_logs = sample, keep_logs
         self._lives = OwnLives(self._state_of(state, logs), task, system)
         try:
-            self._tickets = tickets or self._tickets_of(process)
+            self._tickets = tickets or self._tickets_of(process, state, logs)
         except BaseException:
             self._lives.close()
             raise
@@ -280,12 +279,11 @@ class Task:
             return None
         return state_folder(given, logs if logs is not None else "logs") / self.job
 
-    def _tickets_of(self, process: int | None) -> Tickets:
+    def _tickets_of(
+        self, process: int | None, state: str | os.PathLike[str] | None, logs: str | os.PathLike[str] | None
+    ) -> Tickets:
         number = number_of_caller(CALLERS.start + self.task - 1 if process is None else process)
-        if self._folder is None:
-            return Tickets(number, None, now=follow, system=self._system)
-        self._folder.mkdir(mode=0o700, parents=True, exist_ok=True)
-        path = self._folder / f"task-{self.task}.ticket"
+        path = tickets_in(state, logs, self.job, f"task-{self.task}.ticket")
         return Tickets(number, path, now=follow, system=self._system)
 
     # Life of the process. -----------------------------------------------------------------------

@@ -193,7 +193,7 @@ async def run_task(job: JobScene, number: int, service: Service) -> None:
         cluster.urls, job.name, number, logs=service.host.disk.folder,
         state=service.host.disk.folder / "state", policy=cluster.policy(job),
         on_lose=served.on_lose, on_gain=served.on_gain, secret=secret, timeout=2.0, report=REPORT,
-        transport=transport_of(service), system=Machine(process),
+        state=service.host.disk.folder / "state", transport=transport_of(service), system=Machine(process),
     )
     service.object = served.task = task
     served.sessions = Sessions(process, task, cluster.shelf)
@@ -268,7 +268,8 @@ async def run_client(job: JobScene, number: int, service: Service) -> None:
     process_of(service).rng.shuffle(urls)
     router = service.object = Router(
         urls, job.name, logs=service.host.disk.folder, clerk=number + 1, secret=SECRET,
-        transport=transport_of(service), system=Machine(process_of(service)),
+        state=service.host.disk.folder / "state", transport=transport_of(service),
+        system=Machine(process_of(service)),
     )
     async with router:
         await Client(service, job, router).run()

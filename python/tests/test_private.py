@@ -14,11 +14,12 @@ import needed
 
 needed.library()
 
+from hourstable.client import Router  # noqa: E402
 from hourstable.command import main, options_of, parser  # noqa: E402
 from hourstable.logs import Log, job_line  # noqa: E402
 from hourstable.service import ControlPlane, Options  # noqa: E402
 from hourstable.store import StoreFailed, open_store, password_in, store_of  # noqa: E402
-from hourstable.tickets import Tickets  # noqa: E402
+from hourstable.task import Task  # noqa: E402
 from serving import POLICY, Caller  # noqa: E402
 from test_service import options  # noqa: E402
 
@@ -46,9 +47,11 @@ async def test_files_are_for_the_user_of_the_process_alone(tmp_path: Path, open_
         await caller.take()
         found = modes(tmp_path)
         assert "jobs-wal" in found and "far/below/logs.state/control-0.ticket" in found
-    Log(tmp_path / "of-a-task" / "shop", "task-1", job_line(POLICY)).close()
-    Tickets(64, tmp_path / "of-a-task" / "task-1.ticket").close()
+    await Task("http://127.0.0.1:1", "shop", 1, logs=tmp_path / "of" / "a-task").stop()
+    await Router("http://127.0.0.1:1", "shop", logs=tmp_path / "of" / "a-client").stop()
+    Log(tmp_path / "of" / "a-task" / "shop", "task-1", job_line(POLICY)).close()
     found.update(modes(tmp_path))
+    assert {"of/a-task.state/shop/task-1.ticket", "of/a-client.state/shop/clerk-1.ticket"} <= set(found)
     assert any(it.endswith(".jsonl") for it in found)
     is_folder = {name: (tmp_path / name).is_dir() for name in found}
     assert found == {name: "0o700" if is_folder[name] else "0o600" for name in found}

@@ -20,6 +20,7 @@ from hourstable.calls import Rejected
 from hourstable.library import boottime_ticks
 from hourstable.ranges import KEYS
 from hourstable.task import ClockBroken, Denied, Drift, LeaseLost, Task
+from hourstable.tickets import Tickets
 from hourstable.waiting import within
 from planes import JOB, Plane
 
@@ -51,6 +52,23 @@ async def test_numbers_that_are_those_of_others(given: dict[str, int], task_of: 
     with pytest.raises(ValueError, match="is not"):
         task_of(**given)
     task = task_of(process=64)
+    await task.stop()
+
+
+async def test_tickets_stand_apart_from_logs(plane: Plane, tmp_path: Path) -> None:
+    """Those that older versions kept among the logs are gone on from."""
+    (tmp_path / "logs" / JOB).mkdir(parents=True)
+    old = Tickets(64, tmp_path / "logs" / JOB / "task-1.ticket", now=lambda: 9 << 40)
+    last = old.draw()
+    old.close()
+    task = Task(plane.url, JOB, 1, logs=tmp_path / "logs", policy=plane.policy)
+    assert task._tickets.draw() > last
+    assert list(tmp_path.rglob("*.ticket")) == [tmp_path / "logs.state" / JOB / "task-1.ticket"]
+    with pytest.raises(BlockingIOError):
+        Task(plane.url, JOB, 1, logs=tmp_path / "logs", policy=plane.policy)
+    await task.stop()
+    task = Task(plane.url, JOB, 1, logs=None, state=tmp_path / "other")
+    assert (tmp_path / "other" / JOB / "task-1.ticket").is_file()
     await task.stop()
 
 

@@ -25,6 +25,7 @@ from hourstable.callers import secrets_in
 from hourstable.demo.shelf import Session, Shelf, Taken
 from hourstable.library import slice_key
 from hourstable.ranges import Ranges, holds
+from hourstable.state import tickets_in
 from hourstable.task import ClockBroken, Denied, Drift, Hold, LeaseLost, Task
 from hourstable.tickets import Tickets, follow, real_milliseconds
 
@@ -190,8 +191,7 @@ async def run(words: argparse.Namespace) -> None:
 
 def tickets_of(words: argparse.Namespace, folder: Path) -> Tickets:
     """The tickets of the task: by the real time if all processes are known to have the same."""
-    path = folder / "logs" / words.job / f"task-{words.task}.ticket"
-    path.parent.mkdir(parents=True, exist_ok=True)
+    path = tickets_in(folder / "state", None, words.job, f"task-{words.task}.ticket")
     now = real_milliseconds if words.tickets == "time" else follow
     return Tickets(63 + words.task, path, now=now)
 
