@@ -193,7 +193,7 @@ async def run_task(job: JobScene, number: int, service: Service) -> None:
         cluster.urls, job.name, number, logs=service.host.disk.folder,
         state=service.host.disk.folder / "state", policy=cluster.policy(job),
         on_lose=served.on_lose, on_gain=served.on_gain, secret=secret, timeout=2.0, report=REPORT,
-        state=service.host.disk.folder / "state", transport=transport_of(service), system=Machine(process),
+        transport=transport_of(service), system=Machine(process),
     )
     service.object = served.task = task
     served.sessions = Sessions(process, task, cluster.shelf)

@@ -18,9 +18,9 @@ from hourstable import logs  # noqa: E402
 from hourstable.auditing import Audit, gaps_of  # noqa: E402
 from hourstable.command import main, options_of, parser  # noqa: E402
 from hourstable.plans import Hysteresis  # noqa: E402
-from hourstable.rights import Asked  # noqa: E402
 from hourstable.service import ControlPlane, Options  # noqa: E402
 from hourstable.system import System  # noqa: E402
+from hourstable.table_calls import Take  # noqa: E402
 from hourstable.task import Denied, Task  # noqa: E402
 from lines import line_of  # noqa: E402
 from serving import POLICY  # noqa: E402
@@ -147,10 +147,10 @@ async def test_a_plane_whose_disk_is_full_serves_on(tmp_path: Path, capfd: Said)
                 heard = task.renewed.times
                 await until(lambda: task.renewed.times >= heard + 2)
                 await serve(task)
-            unreachable = counted(task.metrics.text(), "hourstable_control_unreachable_total")
         assert plane.plane is not None
-        missing = counted(plane.plane.metrics.text([]), "hourstable_log_lines_missing_total", job="shop")
-    assert unreachable == 0
+        text = plane.plane.metrics.text([])
+        missing = counted(text, "hourstable_log_lines_missing_total", job="shop")
+    assert counted(text, "hourstable_job_failures_total", job="shop") == 0
     gap, = gaps_of(tmp_path / "logs/shop")
     assert gap.file.startswith("control-0.") and missing - gap.missing in (0, 1) and missing >= 2
     assert Audit(tmp_path / "logs/shop", str(program)).run() == 1
@@ -175,10 +175,10 @@ async def test_what_a_plane_looks_for_in_old_logs_keeps_up_no_other_call(
     options = Options(f"sqlite:{tmp_path}/jobs", tmp_path / "logs", assigner=0)
     async with ControlPlane(options) as plane:
         assert plane.plane is not None
-        answer = await plane.plane.begin_grant("shop", Asked(1, 1))
+        answer = (await plane.plane.followed("shop")).job.call(Take(2))
         await until(waits.is_set)
         goes_on.set()
-        assert (await answer).result is not None
+        assert (await answer).at is not None
 
 
 async def test_logs_are_removed_after_an_audit(tmp_path: Path, capfd: Said) -> None:
