@@ -35,7 +35,7 @@ MUTANTS = (
     Mutant("conflict-ignored", "jobs.py", ((
         "        except Conflict:\n            self._counters.replaced(self.name)\n",
         "        except Conflict:\n            return\n            self._counters.replaced(self.name)\n",
-    ),), why_not="the next look at the store drops the table"),
+    ),), why_not="each write compares the version: nothing of the table is answered, and the next look drops it"),
     Mutant("conflict-overwritten", "jobs.py", ((
         "        written = await self.ask(\"swap\", self._store.swap, *given)\n",
         "        newest = await self._store.load(self.name)\n"
@@ -53,14 +53,14 @@ MUTANTS = (
         "        at = self.read()\n"
         "        call = LoggedCall(self._tickets.draw(), CALLS[do], task=self.task, **members)\n"
         "        call.at = at\n",
-    ),), why_not="tickets of tasks follow messages, and none comes in between"),
+    ),), why_not="tickets of tasks follow messages, and none comes in between: both orders write one line"),
     Mutant("check-always", "task.py", ((
         "self._task._leases is self._leases and self._leases.check(self._entered, self._is_logged)",
         "self._leases.check(self._entered, self._is_logged) or True",
     ),), seeds="5"),
     Mutant("old-leases", "task.py", ((
         "return self._task._leases is self._leases and self._leases.check(", "return self._leases.check(",
-    ),), why_not="a life lasts for thousands of calls"),
+    ),), why_not="the slicelet of a life that has ended says that it holds nothing, which ends the block as well"),
     Mutant("clock-behind", "leases.py", ((
         "        self.clock.sample(sent, reading, now)",
         "        self.clock.sample(sent, max(0, reading - 1500), now)",
@@ -80,7 +80,7 @@ MUTANTS = (
     Mutant("lives-not-compared", "store_sqlite.py", ((
         'update = "UPDATE jobs SET lives = ? WHERE job = ? AND lives = ?"',
         'update = "UPDATE jobs SET lives = ? WHERE job = ? AND lives <> ? || \'x\'"',
-    ),), why_not="no two processes of a task raise its life at one moment over SQLite"),
+    ),), why_not="tasks ask one plane first, which changes lives one by one: two planes never did at once"),
     Mutant("no-lock", "jobs.py", ((
         "                async with self._lock:\n                    together = self._next_together()",
         "                if True:\n                    together = self._next_together()",
