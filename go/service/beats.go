@@ -18,6 +18,7 @@ import (
 // says, and then the answer: a line with its status and its ticket, and its body. Two
 // lines that are missing end the call.
 const (
+	keyHeader    = "Hourstable-Key"  // of a note: the key of its life
 	beatHeader   = "Hourstable-Beat" // in a request 1, in an answer milliseconds
 	beatKind     = "application/vnd.hourstable.beats"
 	leastSilence = 500 * time.Millisecond // this process may be slow

@@ -81,6 +81,7 @@ func shown(plane string) string {
 type request struct {
 	method, path string
 	body         []byte
+	key          string             // of the life that gives leases back; "" for none
 	timeout      time.Duration      // of a GET that waits; that of the control planes if 0
 	read         func(answer) error // takes the answer: an error if no control plane answers so
 	late         func(answer)       // takes an answer that comes after another one; nil if one plane at a time is asked
@@ -333,6 +334,9 @@ func (c *control) try(ctx context.Context, plane string, asked request) (answer,
 	}
 	if asked.timeout > 0 {
 		posed.Header.Set(beatHeader, "1")
+	}
+	if asked.key != "" {
+		posed.Header.Set(keyHeader, asked.key)
 	}
 	made, err := answer{}, error(nil)
 	if response, text, failed := c.fetch(plane, posed, cancel); failed != nil {

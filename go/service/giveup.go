@@ -17,9 +17,9 @@ func (t *Task) giveUp(ctx context.Context, held *leases, kind hourstable.Kind, i
 		return err
 	}
 	if isLast {
-		return t.free(ctx, note)
+		return t.free(ctx, note, held.life)
 	}
-	t.spawnFree(note)
+	t.spawnFree(note, held.life)
 	return nil
 }
 
@@ -102,13 +102,17 @@ func (t *Task) isOpen(lost []hourstable.Range) (isOpen bool) {
 }
 
 // free brings a note to the table, as long as it may be of use.
-func (t *Task) free(ctx context.Context, note []byte) error {
+func (t *Task) free(ctx context.Context, note []byte, life uint32) error {
+	return t.freeWith(ctx, note, t.lives.key(life))
+}
+
+func (t *Task) freeWith(ctx context.Context, note []byte, key string) error {
 	within, cancel := context.WithTimeout(ctx, time.Duration(t.policy.Guard)*time.Millisecond)
 	defer cancel()
 	failures := t.failures()
 	for {
 		_, err := t.control.call(within, request{
-			method: http.MethodPost, path: "/free", body: note,
+			method: http.MethodPost, path: "/free", body: note, key: key,
 			read: func(made answer) error { return made.object(&struct{}{}) },
 		})
 		if err == nil {
@@ -121,9 +125,10 @@ func (t *Task) free(ctx context.Context, note []byte) error {
 }
 
 // spawnFree frees a lease while the task goes on.
-func (t *Task) spawnFree(note []byte) {
+func (t *Task) spawnFree(note []byte, life uint32) {
+	key := t.lives.key(life)
 	t.supervisor.spawn("free", func() error {
-		err := t.free(t.lasting, note)
+		err := t.freeWith(t.lasting, note, key)
 		if errors.Is(err, context.DeadlineExceeded) || errors.Is(err, context.Canceled) {
 			t.config.Logger.Warn("a lease was not freed: it ends by itself")
 			return nil
@@ -138,7 +143,7 @@ func (t *Task) stopAtEvidence(held *leases) error {
 	t.countBehind()
 	for _, kind := range kinds {
 		if note, err := held.release(kind); err == nil {
-			t.spawnFree(note)
+			t.spawnFree(note, held.life)
 		}
 	}
 	t.notice()

@@ -231,8 +231,17 @@ func (l *leases) ask(lease *Lease, call func(*hourstable.Block) error) error {
 	block := pool.Get().(*hourstable.Block)
 	defer pool.Put(block)
 	err := l.askOnce(block, lease.isLogged, call)
-	l.append(block.Line)
+	if err == nil || l.mayLog() {
+		l.append(block.Line)
+	}
 	return err
+}
+
+// mayLog says whether a lease has not ended. Else another process of the task may have
+// been let in, which logs its own calls.
+func (l *leases) mayLog() bool {
+	at, err := l.read()
+	return err == nil && len(l.live(at)) > 0
 }
 
 func (l *leases) askOnce(block *hourstable.Block, isLogged bool, call func(*hourstable.Block) error) (err error) {

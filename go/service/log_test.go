@@ -272,7 +272,7 @@ func TestFilesAreOfTheirUserAlone(t *testing.T) {
 			return nil
 		})
 	}
-	if found != 6 { // two folders in each of two, and a file in each
+	if found != 7 { // two folders in each of two, and a file in each, and the lock
 		t.Errorf("%d files and folders", found)
 	}
 }

@@ -51,7 +51,7 @@ func (t *Task) step(ctx context.Context) (time.Duration, error) {
 	}
 	held := t.life()
 	if held == nil {
-		return 0, t.beginLife(ctx)
+		return t.comeIn(ctx)
 	}
 	left, err := held.slicelet.CallsLeft()
 	if err != nil {
@@ -107,15 +107,23 @@ func (t *Task) next(
 
 // ask asks the table for a grant, and hears it.
 func (t *Task) ask(ctx context.Context, held *leases) (time.Duration, error) {
-	made, err := t.control.call(ctx, request{
-		method: http.MethodPost, path: "/grant", body: []byte(fmt.Sprintf(`{"task":%d,"life":%d}`, t.config.Task, held.life)),
-		read: func(made answer) error { return t.isGrant(made, held) },
-		late: func(made answer) { t.cameLate(made, held) },
-	})
+	made, err := t.askWith(ctx, held.life, func(made answer) { t.cameLate(made, held) })
 	if err != nil {
 		return 0, err
 	}
 	return t.hear(held, made)
+}
+
+// askWith asks the table for a grant of a life.
+func (t *Task) askWith(ctx context.Context, life uint32, late func(answer)) (answer, error) {
+	body, err := t.lives.asking(t.config.Task, life)
+	if err != nil {
+		return answer{}, err
+	}
+	return t.control.call(ctx, request{
+		method: http.MethodPost, path: "/grant", body: body, late: late,
+		read: func(made answer) error { return t.isGrant(made, life) },
+	})
 }
 
 // cameLate lets an answer be heard that came after another one: a note closes the rows
@@ -158,7 +166,7 @@ func (t *Task) hear(held *leases, made answer) (time.Duration, error) {
 		}
 	}
 	if made.status == http.StatusConflict {
-		return t.refused(made.body), nil
+		return t.refused(held.life, made.body)
 	}
 	grant, err := grantOf(t.config.Job, made.body)
 	if err != nil {
@@ -193,29 +201,41 @@ func (t *Task) leaveBehind(held *leases, ends uint64) error {
 }
 
 // isGrant returns why an answer is none to a request for a grant.
-func (t *Task) isGrant(made answer, held *leases) error {
+func (t *Task) isGrant(made answer, life uint32) error {
 	if made.status == http.StatusConflict {
-		var told struct{ Refused string }
+		var told denial
 		if err := made.object(&told); err != nil || told.Refused == "" {
 			return fmt.Errorf("%.80q is no refusal", made.body)
 		}
 		return nil
 	}
 	grant, err := grantOf(t.config.Job, made.body)
-	if err == nil && (grant.Task != t.config.Task || grant.Life != uint64(held.life)) {
+	if err == nil && (grant.Task != t.config.Task || grant.Life != uint64(life)) {
 		err = fmt.Errorf("the grant is of task %d in life %d", grant.Task, grant.Life)
 	}
 	return err
 }
 
-// refused returns for how long to wait after the table refused a grant.
-func (t *Task) refused(body []byte) time.Duration {
-	var told struct{ Refused string }
-	if json.Unmarshal(body, &told) == nil && told.Refused == "no-assignment" {
-		return 500 * time.Millisecond
+// denial is the body of an answer to a life that gets no lease. Where another life of the
+// task is let in, Admitted says which, and After in how many seconds to ask again.
+type denial struct {
+	Refused  string
+	Admitted uint32
+	After    float64
+}
+
+// refused returns for how long to wait after a grant was refused. ErrOvertaken.
+func (t *Task) refused(life uint32, body []byte) (time.Duration, error) {
+	var told denial
+	_ = json.Unmarshal(body, &told) // isGrant has read it
+	switch told.Refused {
+	case "waiting", "overtaken":
+		return t.notLetIn(life, told)
+	case "no-assignment":
+		return 500 * time.Millisecond, nil
 	}
 	t.config.Logger.Warn("the table refused a grant", "why", told.Refused)
-	return 2 * time.Second
+	return 2 * time.Second, nil
 }
 
 // heard learns the phase from a lease, since a bridge to a generation says that it is

@@ -108,6 +108,9 @@ func (t *Task) told() map[string]any {
 	}
 	made["denied"] = copied(t.counts.Denied)
 	if t.leases != nil {
+		if key := t.lives.key(t.leases.life); key != "" {
+			made["life"], made["key"] = t.leases.life, key
+		}
 		if left, err := t.leases.slicelet.CallsLeft(); err == nil {
 			made["calls_left"] = left
 		}

@@ -8,6 +8,7 @@ type State string
 // The states of a task.
 const (
 	Starting State = "starting" // it has no lease, as before its first one
+	Waiting  State = "waiting"  // another process of the task may have leases
 	Serving  State = "serving"
 	Moving   State = "moving"   // it gives up keys
 	CutOff   State = "cut off"  // no control plane gives it leases: it serves until those end that it has
@@ -27,6 +28,8 @@ func (t *Task) State() (state State, since time.Time) {
 		return Stopped, time.Time{}
 	case t.isDraining || t.isDrained:
 		return Draining, time.Time{}
+	case t.isWaiting:
+		return Waiting, time.Time{}
 	case !t.cutOff.IsZero():
 		return CutOff, t.cutOff
 	case len(t.moving) > 0:
@@ -43,7 +46,7 @@ func (t *Task) State() (state State, since time.Time) {
 func (t *Task) Ready() bool {
 	t.mutex.Lock()
 	defer t.mutex.Unlock()
-	return t.hasServed && !t.isDraining && !t.isDrained
+	return t.hasServed && !t.isDraining && !t.isDrained && !t.isWaiting
 }
 
 func (t *Task) drain() {

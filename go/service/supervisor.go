@@ -36,7 +36,7 @@ func (p *panicked) Error() string { return fmt.Sprintf("panic: %v", p.why) }
 func cannotMend(err error) bool {
 	var rejected *Rejected
 	return errors.Is(err, ErrClockBroken) || errors.Is(err, ErrNoJob) || errors.Is(err, errOtherJob) ||
-		errors.As(err, &rejected)
+		errors.Is(err, ErrOvertaken) || errors.As(err, &rejected)
 }
 
 // loop runs work until it returns nil, its context ends or it fails for good, and returns

@@ -5,6 +5,7 @@ import (
 	"errors"
 	"fmt"
 	"net/http"
+	"os"
 	"path/filepath"
 	"sync"
 	"sync/atomic"
@@ -15,10 +16,11 @@ import (
 
 const (
 	keys         = uint64(1) << 63
-	loadBits     = 10  // loads are reported for 1,024 parts of the slice keys
-	lastCalls    = 64  // a slicelet that accepts no more calls than these is replaced
-	jitter       = 0.1 // of half a lease, by which a renewal comes earlier or later
-	firstProcess = 64  // of tasks: task 1 draws the tickets of process 64
+	loadBits     = 10                     // loads are reported for 1,024 parts of the slice keys
+	lastCalls    = 64                     // a slicelet that accepts no more calls than these is replaced
+	jitter       = 0.1                    // of half a lease, by which a renewal comes earlier or later
+	leastWait    = 100 * time.Millisecond // between two questions of a life that waits
+	firstProcess = 64                     // of tasks: task 1 draws the tickets of process 64
 	mostTasks    = 64
 )
 
@@ -28,7 +30,7 @@ type TaskConfig struct {
 	Job     string
 	Task    uint64  // 1 to 64; no two processes are one task
 	Logs    string  // the folder of logs, which has one for each job; none is written if empty
-	State   string  // the folder of tickets; that of logs if empty, and none if both are
+	State   string  // the folder of tickets, the lock and keys; if empty, tickets are with the logs, and the others beside
 	Sample  float64 // the part of the answers of Serving whose calls are logged, all if 0
 
 	Policy map[string]any // creates the job if it is not there; nil if it is there
@@ -57,6 +59,7 @@ type Task struct {
 	config     TaskConfig
 	control    *control
 	tickets    *tickets
+	lives      *ownLives
 	supervisor *supervisor
 	policy     hourstable.Policy
 	woken      chan struct{}
@@ -66,6 +69,7 @@ type Task struct {
 	mutex      sync.Mutex
 	log        *callLog // nil for none
 	leases     *leases  // nil between two lives
+	coming     *ownLife // a life that was drawn, and is not let in; for the loop of leases alone
 	late       []lateAnswer
 	phase      *hourstable.Phase
 	renewAt    uint64
@@ -76,6 +80,7 @@ type Task struct {
 	isDraining bool // the context of Run has ended
 	isDrained  bool // an operator drains it, and it has no keys
 	isStopped  bool
+	isWaiting  bool      // another process of the task may have leases
 	cutOff     time.Time // since when no control plane gives leases; zero if one does
 	left       chan struct{}
 	counts     Counts // but for Requests, which desks count
@@ -90,8 +95,8 @@ type lateAnswer struct {
 	held *leases
 }
 
-// NewTask opens the tickets of a task. An error if a number or a URL is none, or another
-// process has the tickets.
+// NewTask locks a task and opens its tickets. An error if a number or a URL is none, or
+// another process has the lock or the tickets.
 func NewTask(config TaskConfig) (*Task, error) {
 	if config.Task < 1 || config.Task > mostTasks {
 		return nil, fmt.Errorf("hourstable: task %d is not 1 to %d", config.Task, mostTasks)
@@ -105,11 +110,17 @@ func NewTask(config TaskConfig) (*Task, error) {
 	if err != nil {
 		return nil, err
 	}
-	drawn, err := openTickets(process, path)
+	lives, err := openLives(config.lockFolder(), config.Task)
 	if err != nil {
 		return nil, err
 	}
+	drawn, err := openTickets(process, path)
+	if err != nil {
+		lives.close()
+		return nil, err
+	}
 	made := &Task{
+		lives:  lives,
 		config: config, tickets: drawn, supervisor: newSupervisor(config.Logger), woken: make(chan struct{}, 1),
 		left:   make(chan struct{}, 1),
 		counts: Counts{Denied: map[string]uint64{}, Heard: map[string]uint64{}},
@@ -145,6 +156,21 @@ func (c TaskConfig) withDefaults() TaskConfig {
 	return c
 }
 
+// lockFolder returns the folder of the lock and the keys of the task: that of state, or
+// else that of systemd, or the one beside the logs; "" for none.
+func (c TaskConfig) lockFolder() string {
+	folder := c.State
+	if folder == "" && c.Logs != "" {
+		if folder = os.Getenv("STATE_DIRECTORY"); folder == "" {
+			folder = filepath.Clean(c.Logs) + ".state"
+		}
+	}
+	if folder == "" {
+		return ""
+	}
+	return filepath.Join(folder, c.Job)
+}
+
 // ticketFile returns the path of the tickets, "" for none. A file in the folder of logs
 // is moved to that of state.
 func (c TaskConfig) ticketFile() (string, error) {
@@ -164,7 +190,7 @@ func (c TaskConfig) ticketFile() (string, error) {
 
 // Run follows the table until the context ends, then gives up all leases and frees
 // them at the table, and returns nil. Before that it returns only what cannot mend
-// itself: ErrClockBroken, ErrNoJob if there is no job and no policy to create it,
+// itself: ErrClockBroken, ErrOvertaken, ErrNoJob if there is no job and no policy to create it,
 // *Rejected if the job has another policy, or that its log is one of another policy.
 func (t *Task) Run(ctx context.Context) error {
 	defer t.end()
@@ -219,6 +245,10 @@ func (t *Task) follow(ctx context.Context) error {
 // end closes what Run leaves.
 func (t *Task) end() {
 	t.stop()
+	if held := t.life(); held != nil { // what it serves by ends before another process may have the lock
+		t.forget(held)
+	}
+	t.lives.close()
 	t.mutex.Lock()
 	log := t.log
 	t.isStopped = true

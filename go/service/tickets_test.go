@@ -46,7 +46,7 @@ func TestTicketsThatMoveToTheirOwnFolder(t *testing.T) {
 		if err != nil {
 			return 0, err
 		}
-		defer task.tickets.close()
+		defer task.end()
 		return task.tickets.draw()
 	}
 	first, err := draw()
