@@ -22,6 +22,8 @@ package hourstable
 import "C"
 
 import (
+	"crypto/sha256"
+	"encoding/binary"
 	"errors"
 	"fmt"
 	"sync"
@@ -83,8 +85,12 @@ func LibraryVersion() Version {
 }
 
 // SliceKey returns the slice key of a key: the first eight bytes of its SHA-256,
-// most significant first, without the lowest bit.
-func SliceKey(key []byte) uint64 { return uint64(C.hs_slice_key(first(key), C.size_t(len(key)))) }
+// most significant first, without the lowest bit. Go's own hash is faster than that of
+// the library.
+func SliceKey(key []byte) uint64 {
+	hash := sha256.Sum256(key)
+	return binary.BigEndian.Uint64(hash[:8]) >> 1
+}
 
 // BoottimeTicks returns CLOCK_BOOTTIME of Linux in ticks of a millisecond. It
 // counts while the machine is suspended, as the local clock of a task must; the

@@ -3,6 +3,7 @@ package hourstable_test
 import (
 	"errors"
 	"fmt"
+	"math/rand"
 	"strings"
 	"testing"
 
@@ -61,6 +62,30 @@ func newSlicelet(t *testing.T, task uint64) *Slicelet {
 	succeeds(t, "a slicelet", err)
 	t.Cleanup(func() { slicelet.Close() })
 	return slicelet
+}
+
+// The slice key is the one by which the library holds a key: of every length to 4,096 bytes, and of
+// 100,000 keys at random.
+func TestSliceKeys(t *testing.T) {
+	task := newSlicelet(t, 2)
+	succeeds(t, "start", task.Start(1, 5))
+	succeeds(t, "hear", task.Hear(grant(7, 3, 130), 6))
+	random := rand.New(rand.NewSource(7))
+	check := func(length int) {
+		key := make([]byte, length)
+		random.Read(key)
+		handle, err := task.Hold(key, 7)
+		if err != nil || handle.SliceKey != SliceKey(key) {
+			t.Fatalf("%x: %d, not %d: %v", key, SliceKey(key), handle.SliceKey, err)
+		}
+	}
+	for length := 0; length <= 4096; length++ {
+		check(length)
+	}
+	for at := 0; at < 100_000; at++ {
+		check(random.Intn(100))
+	}
+	is(t, "the slice key of hello", SliceKey([]byte("hello")), 1619368272448737671)
 }
 
 // steadyTable has the assignment of all keys to task 1 committed, as in

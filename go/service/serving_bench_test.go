@@ -3,8 +3,9 @@ package service
 import (
 	"context"
 	"fmt"
+	"math"
 	"path/filepath"
-	"runtime"
+	"sync"
 	"syscall"
 	"testing"
 
@@ -64,28 +65,44 @@ func processorTime() int64 {
 	return used.Utime.Nano() + used.Stime.Nano()
 }
 
-// A block of Serving, by the time of the processor and by the wall: alone, and by four goroutines
-// side by side.
+// timeOfBlocks answers in blocks of Serving, by goroutines side by side, and returns the nanoseconds of
+// the processors for each.
+func timeOfBlocks(b *testing.B, task *Task, goroutines, each int) int64 {
+	answer := func(context.Context, *Lease) error { return nil }
+	var waits sync.WaitGroup
+	begun := processorTime()
+	for at := 0; at < goroutines; at++ {
+		waits.Add(1)
+		go func() {
+			defer waits.Done()
+			for block := 0; block < each; block++ {
+				if err := task.Serving(context.Background(), "a key of 20 bytes, 1", answer); err != nil {
+					b.Error(err)
+					return
+				}
+			}
+		}()
+	}
+	waits.Wait()
+	return (processorTime() - begun) / int64(goroutines*each)
+}
+
+// A block of Serving, alone and by four goroutines side by side. The least of the rounds of 1,000
+// blocks counts, by the time of the processors, so that other work on the machine changes it less.
 func BenchmarkServing(b *testing.B) {
 	for _, hasLog := range []bool{false, true} {
 		for _, goroutines := range []int{1, 4} {
 			b.Run(fmt.Sprintf("log=%v/goroutines=%d", hasLog, goroutines), func(b *testing.B) {
 				task := servingTask(b, hasLog)
-				answer := func(context.Context, *Lease) error { return nil }
-				defer runtime.GOMAXPROCS(runtime.GOMAXPROCS(goroutines))
-				b.SetParallelism(1)
 				b.ReportAllocs()
-				begun := processorTime()
 				b.ResetTimer()
-				b.RunParallel(func(pb *testing.PB) {
-					for pb.Next() {
-						if err := task.Serving(context.Background(), "a key of 20 bytes, 1", answer); err != nil {
-							b.Error(err)
-							return
-						}
+				least := int64(math.MaxInt64)
+				for round := 0; round <= b.N/1000; round++ {
+					if took := timeOfBlocks(b, task, goroutines, 1000/goroutines); took < least {
+						least = took
 					}
-				})
-				b.ReportMetric(float64(processorTime()-begun)/float64(b.N), "cpu-ns/op")
+				}
+				b.ReportMetric(float64(least), "least-cpu-ns/block")
 			})
 		}
 	}
