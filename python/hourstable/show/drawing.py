@@ -114,8 +114,13 @@ def space_of(axis: Axis, item: Item) -> Space:
     """Returns the space of a thing with its label: inside it, or else right of it, or else left of it."""
     first, end = extent(axis, item)
     words = item.short_label
-    label = own_label(axis, item) or label_from(end + 3, words) or label_from(less(first, text_width(words) + 3), words)
+    left = less(first, text_width(words) + 3)
+    label = own_label(axis, item) or label_from(end + 3, words) or label_from(left, words)
     return Space(min(first, label.first), max(end, label.end), label) if label else Space(first, end, None)
+
+
+def label_svg(label: Label | None) -> str:
+    return f'<text class="label" x="{label.first}" y="14">{text(label.words)}</text>' if label else ""
 
 
 class Levels:
@@ -135,14 +140,14 @@ class Levels:
 
     def put(self, first: int, most: int, space: Space, svg: str) -> bool:
         """Puts a thing on the first free one of so many levels from one on, and returns whether there is one."""
-        found = next((it for it in range(first, min(len(self.ends), first + most)) if self.ends[it] <= space.first), None)
+        places = range(first, min(len(self.ends), first + most))
+        found = next((it for it in places if self.ends[it] <= space.first), None)
         if found is None:
             if len(self.ends) - first >= most:
                 return False
             found = len(self.ends)
             self.add()
-        label = f'<text class="label" x="{space.label.first}" y="14">{text(space.label.words)}</text>' if space.label else ""
-        self.drawn[found].append(f"<g>{svg}{label}</g>\n")
+        self.drawn[found].append(f"<g>{svg}{label_svg(space.label)}</g>\n")
         self.ends[found] = space.end
         return True
 

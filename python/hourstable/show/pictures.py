@@ -127,10 +127,10 @@ def script_deed(call: Call, is_alarmed: bool) -> Deed:
     return Deed("", label, asked, key, line_of(call.reply), is_alarmed)
 
 
-def script_picture(trace: Trace, key: str | None, with_clerks: bool) -> str:
+def script_picture(trace: Trace, with_clerks: bool) -> str:
     """Returns the picture of a script. With a key, requests for it alone are shown."""
-    story, alarms = Story(trace), []
-    slice_key = trace.head.slice_key
+    story, alarms = Story(trace), list[Alarm]()
+    slice_key, key = trace.head.slice_key, trace.head.key
     for call in trace.calls:
         found = alarms_of(call, f"step {call.place.call}", slice_key)
         alarms += found

@@ -234,5 +234,3 @@ def report(trace: Trace, every: bool = False) -> str:
     if every and len(trace.faults) >= MOST_FAULTS:
         lines.append("the calls after this one were not judged\n")
     return "".join(lines)
-
-

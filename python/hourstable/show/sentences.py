@@ -2,24 +2,28 @@
 
 from __future__ import annotations
 
-from .trace import Call, Lease, Owners, Reason, Trace, Untimely
+from collections.abc import Callable
+
+from .trace import Call, Lease, Owners, Place, Reason, Trace, Untimely
 from .words import line_of, listed
 
 DELIVERED = {"hear": "grant", "free": "note", "check": "handle", "learn": "committed generation"}
+Standing = Callable[[Place], str]  # names where a call stands
 
 
-def lease_name(lease: Lease) -> str:
-    heard = f", heard in step {lease.heard.call}," if lease.heard else ""
-    return f"the {lease.kind} lease of grant {lease.number}{heard}"
+def step_name(place: Place) -> str:
+    return f"step {place.call}"
 
 
-def lease_words(lease: Lease, denied: str) -> str:
+def lease_words(lease: Lease, denied: str, standing: Standing) -> str:
     """Returns what the lease that decides a verdict covers, and its deadline."""
+    heard = f", heard in {standing(lease.heard)}," if lease.heard else ""
+    name = f"the {lease.kind} lease of grant {lease.number}{heard}"
     if not denied:
-        return f"{lease_name(lease)} covers the key until {lease.ends}"
+        return f"{name} covers the key until {lease.ends}"
     if denied == "ended":
-        return f"{lease_name(lease)} covers the key and ended at {lease.ends}"
-    return f"{lease_name(lease)} is live until {lease.ends} and does not cover the key"
+        return f"{name} covers the key and ended at {lease.ends}"
+    return f"{name} is live until {lease.ends} and does not cover the key"
 
 
 def below_words(call: Call, last: int) -> str:
@@ -36,20 +40,20 @@ def ground_words(call: Call, denied: str, last: int) -> str:
     return f"task {call.task} holds no live lease, and none that covers the key"
 
 
-def verdict_words(call: Call, reason: Reason, denied: str) -> str:
+def verdict_words(call: Call, reason: Reason, denied: str, standing: Standing) -> str:
     rule, owners = reason.rule, reason.owners or Owners(0, ())
     lease = rule.decides if rule else None
-    why = lease_words(lease, denied) if lease else ground_words(call, denied, rule.last if rule else 0)
+    why = lease_words(lease, denied, standing) if lease else ground_words(call, denied, rule.last if rule else 0)
     return f"{why}; owners in generation {owners.generation}: {listed(owners.tasks) or 'none'}"
 
 
-def broken_words(call: Call, reason: Reason) -> str:
+def broken_words(call: Call, reason: Reason, standing: Standing) -> str:
     if reason.life is not None:
         return f"task {call.task} is in life {reason.life}, and the handle is from another life"
     if reason.rule:
-        return verdict_words(call, reason, reason.denied)
+        return verdict_words(call, reason, reason.denied, standing)
     if reason.taken_last:
-        return f"the key was denied just before or just after step {reason.taken_last.call}"
+        return f"the key was denied just before or just after {standing(reason.taken_last)}"
     return "the task did not hold the key all the time"
 
 
@@ -69,15 +73,22 @@ def old_words(call: Call, reason: Reason) -> str:
         return f"generation {generation} is not above generation {kept}, which clerk {clerk} keeps"
     heard = reason.heard or {}
     return (
-        f"grant {call.members['number']} is not above grant {heard['number']}, the last {heard['kind']} lease that"
+        f"grant {delivered(call)} is not above grant {heard['number']}, the last {heard['kind']} lease that"
         f" task {call.task} heard in life {reason.life}"
     )
 
 
+def delivered(call: Call) -> int:
+    """Returns the number of the grant, the note, the handle or the generation that a call delivers."""
+    if call.do == "learn":
+        return int(call.members["generation"])
+    found: int = call.members["number"] if "number" in call.members else call.members["grant"]["number"]
+    return found
+
+
 def unsent_words(call: Call, made: int) -> str:
-    what = DELIVERED[call.do]
-    number = call.members["generation" if call.do == "learn" else "number"]
-    return f"there is no {what} {number}; {f'the last one is {made}' if made else 'there is none yet'}"
+    last = f"the last one is {made}" if made else "there is none yet"
+    return f"there is no {DELIVERED[call.do]} {delivered(call)}; {last}"
 
 
 def refusal_sentence(call: Call, reason: Reason) -> str | None:
@@ -91,18 +102,18 @@ def refusal_sentence(call: Call, reason: Reason) -> str | None:
     if ground == "old-life":
         life = call.members["life"]
         return f"life {life} is not above life {reason.life}, the current life of task {call.task}"
-    return unsent_words(call, reason.made) if ground == "not-sent" else None
+    return unsent_words(call, reason.made) if ground == "not-sent" and reason.sent is None else None
 
 
-def sentence(call: Call) -> str | None:
-    """Returns why a call has its reply, None if the line of the reply says it all."""
+def sentence(call: Call, standing: Standing = step_name) -> str | None:
+    """Returns why a call has its reply, None if the line of the reply says it all. `standing` names other calls."""
     reason = call.reason or Reason()
     if call.word == "refused":
         return refusal_sentence(call, reason)
     if call.word == "broken":
-        return broken_words(call, reason)
+        return broken_words(call, reason, standing)
     if reason.rule and call.word in ("served", "denied"):
-        return verdict_words(call, reason, call.ground)
+        return verdict_words(call, reason, call.ground, standing)
     return None
 
 

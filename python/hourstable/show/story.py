@@ -138,7 +138,8 @@ class TableStory:
         if call.word == "restored":
             self.last = call.members["last"]
         if deed:
-            self.events.append(mark("done", self.last, deed.label, f"{deed.place}{deed.asked} at {self.last}: {deed.line}"))
+            words = f"{deed.place}{deed.asked} at {self.last}: {deed.line}"
+            self.events.append(mark("done", self.last, deed.label, words))
 
     def term_items(self) -> list[Item]:
         """Returns the terms, each up to its end or to the next one."""
@@ -236,7 +237,7 @@ class Story:
     def see(self, call: Call, deed: Deed | None) -> None:
         """Sees a call. One without a deed has no mark of its own; what it changes is shown in any case."""
         do = call.do
-        if call.at is not None and (do in TABLE_CLOCK or do in TASK_CALLS):
+        if call.at is not None:
             self.now = call.at
         if do in TABLE_CLOCK:
             self.table.see(call, self.now, self.first, deed)

@@ -102,16 +102,17 @@ class Call:
 
     @property
     def at(self) -> int | None:
-        found: int | None = self.members.get("at")
+        """The reading of its clock; None if it reads none. A `restore` counts as a reading of the table's."""
+        found: int | None = self.members.get("last" if self.do == "restore" else "at")
         return found
 
     @property
     def word(self) -> str:
-        """The first word of the reply's line: `served`, `denied`, `refused`, `heard`."""
+        """The first word of the reply's line, as `served`, `denied`, `refused` or `heard`; none without a reply."""
         for name in ("denied", "refused"):
             if name in self.reply:
                 return name
-        return str(self.reply["reply"])
+        return str(self.reply.get("reply", ""))
 
     @property
     def ground(self) -> str:
@@ -170,8 +171,8 @@ class Reading(NamedTuple):
 
 
 class Untimely(NamedTuple):
-    """The first reading of a task's clock that is not timely: the first reading of the table's clock before it that is
-    more than the skew above it, and the greatest one, whose place is None if it is of earlier logs."""
+    """The first reading of a task's clock that is not timely, with the first reading of the table's clock before it
+    that is more than the skew above it, and the greatest one, whose place is None if it is of earlier logs."""
 
     task: Reading
     first: Reading
@@ -204,19 +205,21 @@ class End:
 
 @dataclass(frozen=True, slots=True)
 class Head:
-    """What the first line says: the job, and of logs their names. `slice_key` is the key whose stretches follow."""
+    """What the first line says: the job, and of logs their names. `slice_key` is the key whose stretches follow,
+    and `key` its text if it was given so."""
 
     of_logs: bool
     job: Members
     logs: tuple[str, ...] = ()
     torn: tuple[Place, ...] = ()
     slice_key: int | None = None
+    key: str | None = None
 
 
 @dataclass(slots=True)
 class Trace:
-    """A trace. `calls` are in the order in which they were made. Those of logs that are not one run end before the first
-    fault, and `rest` are the calls from there on, which have no reply."""
+    """A trace. `calls` are in the order in which they were made. Those of logs that are not one run end before the
+    first fault, and `rest` are the calls from there on, which have no reply."""
 
     head: Head
     end: End
@@ -263,9 +266,8 @@ def place_at(members: Members, name: str) -> Place | None:
 
 
 def lease_of(found: Members) -> Lease:
-    return Lease(
-        found["kind"], found["number"], found["generation"], found["ends"], found["covers"], place_at(found, "heard")
-    )
+    kind, number, generation = found["kind"], found["number"], found["generation"]
+    return Lease(kind, number, generation, found["ends"], found["covers"], place_at(found, "heard"))
 
 
 def rule_of(found: Members) -> Rule:
@@ -278,9 +280,8 @@ def sent_of(found: Members) -> Sent:
     if "later" in found:
         return Sent("later", place_of(found["later"]), found["later"]["ticket"])
     if "other" in found:
-        return Sent(
-            "other", place_of(found["other"]), member=found["member"], here=found.get("here"), there=found.get("there")
-        )
+        place, here, there = place_of(found["other"]), found.get("here"), found.get("there")
+        return Sent("other", place, member=found["member"], here=here, there=there)
     return Sent("nothing")
 
 
@@ -327,7 +328,7 @@ def untimely_of(found: Members) -> Untimely:
 
 
 def counts_of(found: Members) -> Counts:
-    tasks, clerks = (tuple((actor, count) for actor, count in found[it]) for it in ("tasks", "clerks"))
+    tasks, clerks = (tuple((actor, many) for actor, many in found[it]) for it in ("tasks", "clerks"))
     return Counts(found["table"], tasks, clerks)
 
 
@@ -350,7 +351,8 @@ def head_of(found: Members) -> Head:
     if found.get("trace") != VERSION:
         raise Unreadable(f"line 1 is not the first of a trace of version {VERSION}")
     torn = tuple(Place(0, it["log"], it["line"]) for it in found.get("torn", ()))
-    return Head(found["of"] == "logs", found["job"], tuple(found.get("logs", ())), torn, found.get("slice_key"))
+    key = found.get("slice_key"), found.get("key")
+    return Head(found["of"] == "logs", found["job"], tuple(found.get("logs", ())), torn, *key)
 
 
 def parsed(lines: Iterable[bytes]) -> Iterator[tuple[int, Members]]:
@@ -392,5 +394,5 @@ def read(lines: Iterable[bytes]) -> Trace:
             else:
                 add(trace, found)
         except (KeyError, TypeError, AttributeError) as why:
-            raise Unreadable(f"line {number} lacks a member or has one of another kind: {why!r}") from None
-    raise Unreadable(f"the trace has no last line; it ends after line {number}" if number else "the trace is empty")
+            raise Unreadable(f"line {number} lacks a member, or has one of another kind: {why!r}") from None
+    raise Unreadable(f"it has no last line, and ends after line {number}" if number else "it is empty")

@@ -96,6 +96,8 @@ class Machines:
 
     def take(self, assigner: int, at: int, renewed: int | None = None) -> Members:
         """Takes the job lease, or renews a term."""
+        if renewed is None and not 1 <= assigner <= self.job["assigners"]:
+            return NO_ACTOR
         try:
             term = self.table.take(assigner, at) if renewed is None else self.table.renew(renewed, at)
         except Refused as why:
@@ -124,6 +126,8 @@ class Machines:
         return {"reply": "committed", "generation": str(generation)}
 
     def grant(self, task: int, life: int, at: int) -> Members:
+        if task not in self.tasks:
+            return NO_ACTOR
         try:
             sent = self.table.grant(task, life, at)
         except Refused as why:

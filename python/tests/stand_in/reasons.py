@@ -25,7 +25,7 @@ def rule_of(machines: Machines, task: Task, slice_key: int, refer: Refer) -> Mem
 
 def deciding(rule: Members, answer: Members, at: int) -> Members | None:
     """Returns the lease by which the rule answers, if one decides."""
-    leases = rule["leases"]
+    leases: list[Members] = rule["leases"]
     if answer.get("reply") == "served":
         return next(it for it in leases if it["kind"] == answer["kind"])
     if answer.get("denied") == "ended":

@@ -27,17 +27,18 @@ def refer(call: int) -> Members:
 class Script:
     """A script that is played."""
 
-    def __init__(self, elements: list[Any], key: int | None) -> None:
+    def __init__(self, elements: list[Any], key: str | None) -> None:
         self.job, self.steps = elements[0]["job"], elements[1:]
         self.machines = Machines(self.job)
         self.terms: dict[int, int] = {}  # the term that each assigner keeps
         self.key, self.made = key, 0
+        self.slice_key = None if key is None else key_number(key.encode())
         self.watch, self.handles = Watch(self.job["skew"]), Handles(self.machines)
-        self.stretches = Stretches(self.machines, key) if key is not None else None
+        self.stretches = None if self.slice_key is None else Stretches(self.machines, self.slice_key)
 
     def trace(self, lines: list[str]) -> Iterator[Members]:
         """Yields the lines of the trace, from the lines of the replies."""
-        shown = {} if self.key is None else {"slice_key": str(self.key)}
+        shown = {} if self.key is None else {"slice_key": str(self.slice_key), "key": self.key}
         yield {"trace": 1, "of": "script", "job": self.job, **shown}
         for number, (step, line) in enumerate(zip(self.steps, lines), 1):
             yield self.call(number, step, line)
@@ -171,6 +172,6 @@ def written(call: Members) -> Members:
     return found
 
 
-def script_trace(text: bytes, lines: list[str], key: int | None) -> Iterator[Members]:
+def script_trace(text: bytes, lines: list[str], key: str | None) -> Iterator[Members]:
     """Yields the trace of a script, with the lines of its replies, and the stretches of a key."""
     return Script(json.loads(text), key).trace(lines)

@@ -6,7 +6,7 @@ from .machines import Machines
 from .reasons import Refer
 from .tasks import Members
 
-TABLE_CLOCK = frozenset("take renew propose commit grant free".split())
+TABLE_CLOCK = frozenset("take renew propose commit grant free restore".split())
 TASK_CLOCK = frozenset("start hear release serve hold check".split())
 FIRST: tuple[int, int | None] = (0, None)
 
@@ -30,10 +30,8 @@ class Watch:
             return None
         if self.untimely is None:
             first = next(it for it in self.table if it[0] > at + self.skew)
-            self.untimely = {
-                "task": {"at": str(at), **refer(number)},
-                **{name: {"at": str(it[0]), **refer(it[1])} for name, it in (("first", first), ("greatest", self.table[-1]))},
-            }
+            found = {"task": (at, number), "first": first, "greatest": self.table[-1]}
+            self.untimely = {name: {"at": str(read), **refer(call)} for name, (read, call) in found.items()}
         return self.greatest[0]
 
 
