@@ -12,7 +12,6 @@ from pathlib import Path
 
 import needed
 
-from hourstable.library import slice_key
 from hourstable.show import trace
 from stand_in.logs import Asked, Logs
 from stand_in.scripts import script_trace
@@ -42,9 +41,10 @@ def read(lines: Iterable[Members]) -> trace.Trace:
 
 
 def of_script(path: Path, key: str | None = None) -> list[Members]:
-    """Returns the lines of the trace of a script; none if it is refused."""
+    """Returns the lines of the trace of a script, none if it is refused."""
     ran = proved("run", str(path))
-    return list(script_trace(path.read_bytes(), ran.stdout.decode().splitlines()[:-1], key)) if ran.returncode == 0 else []
+    lines = ran.stdout.decode().splitlines()[:-1]
+    return list(script_trace(path.read_bytes(), lines, key)) if ran.returncode == 0 else []
 
 
 def of_logs(
@@ -81,9 +81,6 @@ def show(
 ) -> "subprocess.CompletedProcess[bytes]":
     """Runs hourstable-show."""
     return subprocess.run(
-        [sys.executable, "-B", "-m", "hourstable.show", *words], cwd=cwd, input=given, capture_output=True, check=False,
-        env=environment, timeout=SECONDS,
+        [sys.executable, "-B", "-m", "hourstable.show", *words], cwd=cwd, input=given, capture_output=True,
+        check=False, env=environment, timeout=SECONDS,
     )
-
-
-HELLO = slice_key(b"hello")

@@ -16,6 +16,7 @@ from hourstable.show import pictures, report, sentences, trace, views  # noqa: E
 from showing import (  # noqa: E402
     COMMANDS, SCRIPTS, TOP, keys_of, of_logs, of_script, proved, read, show, stand_in, written,
 )
+from stand_in.tasks import Members  # noqa: E402
 
 PICTURE = re.compile(r"<!-- picture: timeline (.*) < (\S+) -->\n!\[[^\]]*\]\((\S+)\)")
 BUGS = (  # of examples/audit: each kind of cause and hint
@@ -56,7 +57,8 @@ def test_a_script_is_explained(name: str) -> None:
 @pytest.mark.parametrize("name", played())
 def test_a_script_is_drawn(name: str) -> None:
     path = SCRIPTS / f"{name}.json"
-    assert pictures.script_picture(read(of_script(path)), with_clerks=True) == written("timeline", "--clerks", str(path))
+    drawn = pictures.script_picture(read(of_script(path)), with_clerks=True)
+    assert drawn == written("timeline", "--clerks", str(path))
     for key in keys_of(path)[:3]:
         found = read(of_script(path, key))
         assert pictures.script_picture(found, with_clerks=False) == written("timeline", f"--key={key}", str(path))
@@ -103,20 +105,24 @@ def test_a_report_is_what_is_stored(folder: Path, tmp_path: Path, name: str) -> 
     assert shown(folder, tmp_path, name) == as_written(name)
 
 
+LATER = re.compile(r"steps (\d+)\ncalls table (\d+)(.*)\ntimely no: (\S+):(\d+) read (\d+), the table read (\d+)")
+
+
 def test_a_report_goes_on_from_earlier_logs() -> None:
     # The stand-in goes on from no state, so these are what a trace says of stored audits that do.
-    job = {"redundancy": 1, "skew": 10, "guard": 100, "bridge": 100, "job": 1000, "numbers": 1000, "assigners": 1,
-           "tasks": 3, "clerks": 1}
-    stored_text = (COMMANDS / "audit-from-a-later-reading.stdout").read_text()
-    found = re.search(r"steps (\d+)\ncalls table (\d+)(.*)\ntimely no: (\S+):(\d+) read (\d+), the table read (\d+)", stored_text)
-    assert found, stored_text
-    steps, table, _, log, line, late, early = found.groups()
-    tasks = [list(map(int, it)) for it in re.findall(r"task (\d+) (\d+)", stored_text)]
-    untimely = {"task": {"call": 1, "log": 0, "line": int(line), "at": late}, "first": {"at": early}, "greatest": {"at": early}}
-    end = {"calls": int(steps), "verdict": "one", "untimely": untimely,
-           "counts": {"table": int(table), "tasks": tasks, "clerks": []}}
-    lines = [{"trace": 1, "of": "logs", "job": job, "logs": [log]}, {"end": end}]
-    assert report.report(read(lines)) == stored_text
+    text = (COMMANDS / "audit-from-a-later-reading.stdout").read_text()
+    found = LATER.search(text)
+    assert found, text
+    steps, table, counts, log, line, late, early = found.groups()
+    tasks = [list(map(int, it)) for it in re.findall(r"task (\d+) (\d+)", counts)]
+    clerks = [list(map(int, it)) for it in re.findall(r"clerk (\d+) (\d+)", counts)]
+    task = {"call": 1, "log": 0, "line": int(line), "at": late}
+    end: Members = {
+        "calls": int(steps), "verdict": "one", "counts": {"table": int(table), "tasks": tasks, "clerks": clerks},
+        "untimely": {"task": task, "first": {"at": early}, "greatest": {"at": early}},
+    }
+    lines: list[Members] = [{"trace": 1, "of": "logs", "job": {"skew": 10}, "logs": [log]}, {"end": end}]
+    assert report.report(read(lines)) == text
     end["forgotten"] = True
     last = (COMMANDS / "audit-from-a-state-not-sent.stdout").read_text().splitlines()[-1]
     assert report.report(read(lines)).splitlines()[-1] == last
@@ -185,7 +191,8 @@ def test_what_is_no_trace_is_refused(lines: list[bytes], why: str) -> None:
 
 
 def test_lines_of_other_kinds_are_passed_over() -> None:
-    lines = [{"trace": 1, "of": "script", "job": {"skew": 0}}, {"later": {"kind": 1}}, {"end": {"calls": 0}}]
+    head: Members = {"trace": 1, "of": "script", "job": {"skew": 0}}
+    lines = [head, {"later": {"kind": 1}}, {"end": {"calls": 0}}]
     assert sentences.explained(read(lines), numbered=False) == "timely yes\n"
 
 

@@ -52,9 +52,9 @@ def cut_points(calls: Iterable[Call]) -> dict[tuple[int, int], list[int]]:
         if task is None or "reply" not in call.reply:
             continue
         if call.do == "open":
-            process[task] = process.get(task, 1) + 1
+            process[task] = process.get(task, 0) + 1
         elif call.do in ("start", "hear", "release") and call.at is not None:
-            found.setdefault((task, process.get(task, 1)), []).append(call.at)
+            found.setdefault((task, process.get(task, 0)), []).append(call.at)
     return found
 
 

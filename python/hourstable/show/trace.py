@@ -142,7 +142,7 @@ TASK_CLOCK = TASK_CALLS - {"open"}
 
 class Stretch(NamedTuple):
     """Readings of a task's clock at which one of its processes may serve the key of the trace, under one lease: from
-    `first` up to but not with `end`. `process` counts the processes of the task, from 1."""
+    `first` up to but not with `end`. `process` is how many `open`s of the task came before."""
 
     task: int
     process: int

@@ -29,10 +29,10 @@ class HeldLease(NamedTuple):
 
 
 class Task:
-    """A task. `last` is the last reading that it accepted, `process` counts its processes, from 1."""
+    """A task. `last` is the last reading that it accepted, `process` how often it was opened."""
 
     def __init__(self, number: int) -> None:
-        self.number, self.life, self.last, self.process = number, 0, 0, 1
+        self.number, self.life, self.last, self.process = number, 0, 0, 0
         self.is_started = False
         self.slicelet = Slicelet(JOB, number)
         self.accepted: list[Accepted] = []
