@@ -250,11 +250,14 @@ def escape(byte: int) -> str:
     return chr(byte) if 32 <= byte < 127 else f"\\x{byte:02x}"
 
 
-def with_numbers(members: Members) -> Members:
-    for name, value in members.items():
-        if type(value) is str and name in NUMBERS and value.isdecimal():
-            members[name] = int(value)
-    return members
+def with_numbers(pairs: list[tuple[str, Any]]) -> Members:
+    return {
+        name: int(value) if value.__class__ is str and name in NUMBERS and value.isdecimal() else value
+        for name, value in pairs
+    }
+
+
+DECODER = json.JSONDecoder(object_pairs_hook=with_numbers)
 
 
 def place_of(found: Mapping[str, Any]) -> Place:
@@ -359,7 +362,7 @@ def parsed(lines: Iterable[bytes]) -> Iterator[tuple[int, Members]]:
     """Yields the values of lines with their numbers."""
     for number, line in enumerate(lines, 1):
         try:
-            found = json.loads(line, object_hook=with_numbers)
+            found = DECODER.decode(line.decode())
         except ValueError as why:
             raise Unreadable(f"line {number} is no JSON text: {why}") from None
         if not isinstance(found, dict):

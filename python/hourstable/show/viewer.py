@@ -170,15 +170,12 @@ class Data:
         base = min([*self.columns["at"], *(it[3] for it in spans), *(it[1] for it in stretches)], default=0)
         self.columns["at"] = [it - base for it in self.columns["at"]]
         return {
-            "title": heading(self.trace, len(self.rows)), "base": str(base), "lanes": self.ordered(),
+            "title": heading(self.trace, len(self.rows)), "base": str(base), "lanes": list(self.lanes),
             "columns": self.columns, "arrows": self.arrows, "fault": fault, "report": found_words(self.trace),
             "spans": [[*it[:3], it[3] - base, None if it[4] == FOREVER else it[4] - base, *it[5:]] for it in spans],
             "stretches": [[lane, first - base, end - base] for lane, first, end in stretches],
-            "heard": self.heard, "key": key_words(self.trace),
+            "heard": self.heard,
         }
-
-    def ordered(self) -> list[str]:
-        return list(self.lanes)
 
 
 def spans_of_item(lane: int, row: str, item: Item, number: int) -> Iterator[list[Any]]:
@@ -206,7 +203,8 @@ def what(call: Call) -> str:
 def heading(trace: Trace, drawn: int) -> str:
     if trace.head.of_logs:
         return log_heading(trace.head, drawn, trace.end.calls)
-    return f"Timeline of {trace.end.calls} steps"
+    key = "" if trace.head.key is None else f", key {trace.head.key}"
+    return f"Timeline of {trace.end.calls} steps{key}"
 
 
 def found_words(trace: Trace) -> str:
@@ -217,11 +215,6 @@ def found_words(trace: Trace) -> str:
     if untimely is None:
         return "timely yes\n"
     return f"timely no: {sentences.untimely_words(untimely, trace.head.job['skew'])}\n"
-
-
-def key_words(trace: Trace) -> str:
-    head = trace.head
-    return "" if head.slice_key is None else head.key or f"slice key {head.slice_key}"
 
 
 def hashed(text: str) -> str:

@@ -4,12 +4,15 @@
 
 const KINDS = ["served", "denied", "refused", "done", "warned", "fault", "unjudged"];
 const SERVED = 0, DENIED = 1, REFUSED = 2, DONE = 3, WARNED = 4, FAULT = 5, UNJUDGED = 6;
+const STACK = [DONE, SERVED, UNJUDGED, REFUSED, DENIED, WARNED, FAULT]; // from the foot of a column up
 const ARROWS = ["grant", "note", "assignment"];
 const LEFT = 96; // pixels, of the names of lanes and rows
 const TOP = 34; // of the numbers of the readings
 const ROW = 20, GAP = 8;
+const COLUMN = 2; // pixels, of many calls
 const FEW = 400; // things in view up to which each is drawn with its label, and messages as arrows
 const MOST_LEVELS = 3; // of a row
+const MOST_HEIGHT = 12000; // pixels, which a canvas surely has; lanes below are left out
 const LEGEND = [
   ["guard", "guard lease held"], ["bridge", "bridge lease held"], ["out", "lease out, not held"],
   ["skew", "over for the task, not for the table"], ["may", "may serve the key"], ["served", "served or found"],
@@ -21,6 +24,7 @@ const canvas = at("lanes");
 const pen = canvas.getContext("2d");
 let data = null; // what the page was given
 let lanes = []; // with their rows, from top to bottom
+let middles = []; // of each lane of the data: where its calls are, null if it is left out
 let view = { from: 0, to: 1 }; // readings, counted from the lowest
 let chosen = -1; // the index of a call, or -1
 let chosenGrant = 0;
@@ -95,6 +99,7 @@ function build() {
     for (const it of lane.rows) {
       it.marks.sort((one, other) => columns.at[one] - columns.at[other] || one - other);
       it.ats = Float64Array.from(it.marks, (index) => columns.at[index]);
+      it.kinds = Uint8Array.from(it.marks, (index) => columns.kind[index]);
     }
   }
   lanes.sort((one, other) => order(one.name) - order(other.name));
@@ -102,7 +107,7 @@ function build() {
 }
 
 function lay() {
-  let y = TOP;
+  let y = TOP, many = 0;
   for (const lane of lanes) {
     lane.y = y;
     y += ROW;
@@ -112,27 +117,43 @@ function lay() {
     }
     y += GAP;
     lane.foot = y - GAP / 2;
+    if (y > MOST_HEIGHT && many > 0) break;
+    height = y;
+    many++;
   }
-  height = y;
+  const left = lanes.length - many;
+  if (left > 0) at("help").append(` ${left} more lanes are left out here; searching finds their calls.`);
+  lanes = lanes.slice(0, many);
+  middles = data.lanes.map((name) => {
+    const lane = lanes.find((it) => it.name === name);
+    const calls = lane && lane.rows.find((it) => it.name === "calls");
+    return calls ? calls.y + ROW / 2 : null;
+  });
 }
 
+// Returns the readings of all calls, with some room. What ends later, as leases do, is found by moving.
 function bounds() {
   let to = 1;
   for (const it of data.columns.at) if (it > to) to = it;
-  for (const [, , , from, end] of data.spans) to = Math.max(to, from, end === null ? 0 : end);
-  return { from: 0, to: to * 1.01 + 1 };
+  return { from: -to * 0.01, to: to * 1.04 + 1 };
 }
 
 // Positions ----------------------------------------------------------------------------------------
 
-const width = () => canvas.clientWidth;
-const scale = () => (width() - LEFT - 8) / (view.to - view.from);
-const x = (reading) => LEFT + (Math.min(reading, view.to + (view.to - view.from)) - view.from) * scale();
-const reading = (pixel) => view.from + (pixel - LEFT) / scale();
+let wide = 1; // the width of the picture in pixels
+let scale = 1; // pixels of a tick
 
-// Returns the index of the first number that is not below a value, in numbers that rise.
-function first(numbers, value) {
-  let low = 0, high = numbers.length;
+function measure() {
+  wide = canvas.clientWidth || 1;
+  scale = Math.max(wide - LEFT - 8, 1) / (view.to - view.from);
+}
+
+const x = (reading) => LEFT + (Math.min(reading, view.to + (view.to - view.from)) - view.from) * scale;
+const reading = (pixel) => view.from + (pixel - LEFT) / scale;
+
+// Returns the index of the first number from a place on that is not below a value, in numbers that rise.
+function first(numbers, value, from = 0) {
+  let low = from, high = numbers.length;
   while (low < high) {
     const middle = (low + high) >> 1;
     if (numbers[middle] < value) low = middle + 1; else high = middle;
@@ -152,7 +173,7 @@ function readColours() {
   const style = getComputedStyle(document.documentElement);
   const names = ["back", "text", "soft", "line", "panel", "served", "denied", "refused", "done", "warned", "may", "guard",
     "guard-edge", "bridge", "bridge-edge", "life", "life-edge", "skew", "steady", "waiting", "term", "edge", "chosen",
-    "match"];
+    "match", "band"];
   for (const name of names) colours[name] = style.getPropertyValue(`--${name}`).trim();
   colours.fault = colours.denied;
   colours.unjudged = colours.edge;
@@ -161,11 +182,12 @@ function readColours() {
 function draw() {
   const ratio = window.devicePixelRatio || 1;
   canvas.style.height = `${height}px`;
-  const wide = Math.round(width() * ratio), high = Math.round(height * ratio);
-  if (canvas.width !== wide || canvas.height !== high) [canvas.width, canvas.height] = [wide, high];
+  measure();
+  const across = Math.round(wide * ratio), down = Math.round(height * ratio);
+  if (canvas.width !== across || canvas.height !== down) [canvas.width, canvas.height] = [across, down];
   pen.setTransform(ratio, 0, 0, ratio, 0, 0);
   pen.fillStyle = colours.back;
-  pen.fillRect(0, 0, width(), height);
+  pen.fillRect(0, 0, wide, height);
   pen.font = "12px system-ui, -apple-system, 'Segoe UI', Roboto, 'DejaVu Sans', sans-serif";
   pen.textBaseline = "middle";
   drawGenerations();
@@ -175,7 +197,7 @@ function draw() {
   else if (chosen >= 0) drawArrows(data.arrows.filter((it) => it[0] === chosen || it[1] === chosen));
   drawNames();
   drawChosen();
-  canvas.dataset.drawn = String(inView);
+  Object.assign(canvas.dataset, { drawn: String(inView), from: String(view.from), to: String(view.to) });
 }
 
 // Bands behind all lanes: of the generations that are committed, those with an even number are darker.
@@ -187,8 +209,8 @@ function drawGenerations() {
     for (const span of level.spans) {
       const generation = Number((span.words.match(/generation (\d+)/) || [0, 0])[1]);
       if (span.to < view.from || span.from > view.to || !span.words.startsWith("steady") || generation % 2) continue;
-      pen.fillStyle = colours.panel;
-      pen.fillRect(Math.max(x(span.from), LEFT), TOP, Math.min(x(span.to), width()) - Math.max(x(span.from), LEFT), height);
+      pen.fillStyle = colours.band;
+      pen.fillRect(Math.max(x(span.from), LEFT), TOP, Math.min(x(span.to), wide) - Math.max(x(span.from), LEFT), height);
     }
   }
 }
@@ -197,14 +219,14 @@ function drawAxis() {
   pen.fillStyle = colours.soft;
   pen.strokeStyle = colours.line;
   pen.lineWidth = 1;
-  const wanted = (view.to - view.from) / Math.max((width() - LEFT) / 110, 1);
+  const wanted = (view.to - view.from) / Math.max((wide - LEFT) / 110, 1);
   const power = 10 ** Math.floor(Math.log10(Math.max(wanted, 1)));
   const step = Math.max([1, 2, 5, 10].map((it) => it * power).find((it) => it >= wanted), 1);
   pen.textAlign = "center";
   const base = BigInt(data.base);
   const offset = Number(base % BigInt(Math.max(Math.round(step), 1)));
   for (let it = Math.ceil((view.from + offset) / step) * step - offset; it <= view.to; it += step) {
-    if (x(it) < LEFT) continue;
+    if (x(it) < LEFT || base + BigInt(Math.round(it)) < 0n) continue;
     pen.beginPath();
     pen.moveTo(x(it), TOP - 8);
     pen.lineTo(x(it), height);
@@ -237,15 +259,15 @@ function drawStretch(lane, stretch) {
   pen.globalAlpha = 0.2;
   pen.fillStyle = colours.may;
   const from = Math.max(x(stretch.from), LEFT);
-  pen.fillRect(from, lane.y, Math.max(Math.min(x(stretch.to), width()) - from, 1), lane.foot - lane.y);
+  pen.fillRect(from, lane.y, Math.max(Math.min(x(stretch.to), wide) - from, 1), lane.foot - lane.y);
   pen.globalAlpha = 1;
 }
 
 const EDGES = { guard: "guard-edge", bridge: "bridge-edge", life: "life-edge", handle: "life-edge" };
 
 function drawPart(part, y) {
-  const from = Math.max(x(part.from), LEFT), to = Math.min(x(part.to), width() + 4);
-  if (to < LEFT || from > width()) return;
+  const from = Math.max(x(part.from), LEFT), to = Math.min(x(part.to), wide + 4);
+  if (to < LEFT || from > wide) return;
   if (part.look === "out" || part.look === "handle") {
     pen.strokeStyle = colours[EDGES[part.look] || "soft"];
     pen.lineWidth = 1.5;
@@ -279,10 +301,10 @@ function drawSpan(span, y) {
     pen.strokeStyle = colours.chosen;
     pen.lineWidth = 2.5;
     const from = Math.max(x(span.from), LEFT);
-    pen.strokeRect(from, y + 1, Math.max(Math.min(x(span.to), width()) - from, 2), ROW - 2);
+    pen.strokeRect(from, y + 1, Math.max(Math.min(x(span.to), wide) - from, 2), ROW - 2);
   }
   const bar = span.parts.find((it) => it.look !== "out" && it.look !== "skew") || span.parts[0];
-  const from = Math.max(x(bar.from), LEFT), room = Math.min(x(bar.to), width()) - from;
+  const from = Math.max(x(bar.from), LEFT), room = Math.min(x(bar.to), wide) - from;
   if (room > 30 && pen.measureText(span.label).width + 8 < room) {
     pen.fillStyle = colours.text;
     pen.fillText(span.label, from + 4, y + ROW / 2 + 1);
@@ -290,7 +312,7 @@ function drawSpan(span, y) {
 }
 
 function drawMarks(of) {
-  const from = first(of.ats, reading(LEFT - 6)), to = first(of.ats, reading(width() + 6));
+  const from = first(of.ats, reading(LEFT - 6)), to = first(of.ats, reading(wide + 6));
   if (to - from > FEW) {
     drawColumns(of, from, to);
     return to - from;
@@ -301,25 +323,28 @@ function drawMarks(of) {
 
 // Where there are many calls, each column of pixels shows how many there are of each kind: the taller, the more.
 function drawColumns(of, from, to) {
-  const kinds = data.columns.kind;
+  const bars = KINDS.map(() => []);
+  const counts = new Uint32Array(KINDS.length);
   let place = from;
   while (place < to) {
-    const column = Math.floor(x(of.ats[place]));
-    const counts = new Uint32Array(KINDS.length);
-    let many = 0;
-    while (place < to && Math.floor(x(of.ats[place])) === column) {
-      counts[kinds[of.marks[place]]]++;
-      many++;
-      place++;
-    }
+    const column = Math.floor((of.ats[place] - view.from) * scale / COLUMN);
+    const next = first(of.ats, view.from + (column + 1) * COLUMN / scale, place + 1);
+    counts.fill(0);
+    for (let it = place; it < next; it++) counts[of.kinds[it]]++;
     let y = of.y + ROW - 2;
-    const tall = Math.min(4 + 3 * Math.log2(many + 1), ROW - 4);
-    for (const kind of [DONE, SERVED, UNJUDGED, REFUSED, DENIED, WARNED, FAULT]) {
+    const tall = Math.min(4 + 3 * Math.log2(next - place + 1), ROW - 4);
+    for (const kind of STACK) {
       if (counts[kind] === 0) continue;
-      const part = Math.max((tall * counts[kind]) / many, 2);
-      pen.fillStyle = colours[KINDS[kind]];
-      pen.fillRect(column, y - part, 1, part);
+      const part = Math.max((tall * counts[kind]) / (next - place), 2);
+      bars[kind].push(LEFT + column * COLUMN, y - part, part);
       y -= part;
+    }
+    place = next;
+  }
+  for (const kind of STACK) {
+    pen.fillStyle = colours[KINDS[kind]];
+    for (let it = 0; it < bars[kind].length; it += 3) {
+      pen.fillRect(bars[kind][it], bars[kind][it + 1], COLUMN, bars[kind][it + 2]);
     }
   }
 }
@@ -345,10 +370,7 @@ function drawMark(index, y) {
   }
 }
 
-function middleOf(index) {
-  const lane = lanes.find((it) => it.name === data.lanes[data.columns.lane[index]]);
-  return row(lane, "calls").y + ROW / 2;
-}
+const middleOf = (index) => middles[data.columns.lane[index]];
 
 function drawArrows(arrows) {
   const ats = data.columns.at;
@@ -356,8 +378,9 @@ function drawArrows(arrows) {
   pen.lineWidth = 1;
   for (const [sender, receiver] of arrows) {
     const from = x(ats[sender]), to = x(ats[receiver]);
-    if (Math.max(from, to) < LEFT || Math.min(from, to) > width()) continue;
+    if (Math.max(from, to) < LEFT || Math.min(from, to) > wide) continue;
     const high = middleOf(sender), low = middleOf(receiver);
+    if (high === null || low === null) continue;
     pen.globalAlpha = sender === chosen || receiver === chosen ? 1 : 0.45;
     pen.beginPath();
     pen.moveTo(from, high);
@@ -386,14 +409,14 @@ function drawNames() {
     pen.lineWidth = 1;
     pen.beginPath();
     pen.moveTo(0, lane.foot + 0.5);
-    pen.lineTo(width(), lane.foot + 0.5);
+    pen.lineTo(wide, lane.foot + 0.5);
     pen.stroke();
   }
 }
 
 function ring(index, colour, size) {
   const left = x(data.columns.at[index]);
-  if (left < LEFT) return;
+  if (left < LEFT || middleOf(index) === null) return;
   pen.strokeStyle = colour;
   pen.lineWidth = 2.5;
   pen.beginPath();
@@ -411,11 +434,12 @@ function drawChosen() {
 
 function look(from, to) {
   const whole = bounds();
-  const least = 4, most = (whole.to - whole.from) * 1.5;
+  const least = 4, most = (whole.to - whole.from) * 4;
   const span = Math.min(Math.max(to - from, least), most);
   const middle = (from + to) / 2;
-  const low = Math.min(Math.max(middle - span / 2, whole.from - span / 2), whole.to - span / 2);
+  const low = Math.min(Math.max(middle - span / 2, whole.from - span / 2), most - span / 2);
   view = { from: low, to: low + span };
+  measure();
   redraw();
 }
 
@@ -580,6 +604,9 @@ function onKey(event) {
   if (event.key === "/" && !inField) {
     event.preventDefault();
     at("words").focus();
+  } else if (event.key === "Enter" && event.shiftKey && inField) {
+    event.preventDefault();
+    nextMatch(-1);
   } else if (event.key === "Escape" && inField) {
     at("words").value = "";
     find("");
@@ -598,7 +625,7 @@ function drag() {
   });
   canvas.addEventListener("pointermove", (event) => {
     if (!from) return;
-    const by = (from.left - event.offsetX) / scale();
+    const by = (from.left - event.offsetX) / scale;
     if (Math.abs(from.left - event.offsetX) > 3) from.moved = true;
     if (from.moved) {
       canvas.classList.add("dragged");
@@ -623,7 +650,7 @@ function listen() {
   at("words").addEventListener("input", () => find(at("words").value));
   at("search").addEventListener("submit", (event) => {
     event.preventDefault();
-    nextMatch(event.submitter && event.submitter.dataset.back ? -1 : 1);
+    nextMatch(1);
   });
   at("in").addEventListener("click", () => zoom(0.5));
   at("out").addEventListener("click", () => zoom(2));
@@ -658,7 +685,7 @@ function legend() {
 async function begin() {
   data = await unpacked(at("data").textContent);
   at("data").remove();
-  document.title = at("title").textContent = data.title + (data.key ? `, key ${data.key}` : "");
+  document.title = at("title").textContent = data.title;
   at("report").textContent = data.report;
   readColours();
   build();
