@@ -209,6 +209,16 @@ def test_a_trace_is_read_from_a_pipe(tmp_path: Path) -> None:
     assert both.returncode == 2 and b"--trace is given alone" in both.stderr
 
 
+def test_a_page_is_written_beside_the_report(folder: Path, tmp_path: Path) -> None:
+    page, environment = tmp_path / "page.html", stand_in(tmp_path)
+    ran = show(environment, "timeline", f"--html={page}", "--logs", "served-at-the-deadline.jsonl", cwd=folder)
+    assert (ran.returncode, ran.stdout) == (1, b"")
+    assert ran.stderr == (COMMANDS / "audit-served-at-the-deadline.stdout").read_bytes()
+    assert page.read_text(encoding="utf-8").startswith("<!DOCTYPE html>")
+    lost = show(environment, "timeline", f"--html={tmp_path}", "--logs", "hand-over.jsonl", cwd=folder)
+    assert lost.returncode == 3 and b"Is a directory" in lost.stderr
+
+
 def test_there_must_be_a_program(tmp_path: Path) -> None:
     environment = {**stand_in(tmp_path), "HOURSTABLE_PROGRAM": str(tmp_path / "nothing")}
     ran = show(environment, "explain")
