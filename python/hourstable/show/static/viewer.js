@@ -272,9 +272,10 @@ function drawPart(part, y) {
     pen.strokeStyle = colours[EDGES[part.look] || "soft"];
     pen.lineWidth = 1.5;
     pen.setLineDash(part.look === "out" ? [3, 3] : []);
+    const line = part.look === "out" ? y + ROW / 2 : y + ROW - 3;
     pen.beginPath();
-    pen.moveTo(from, y + ROW / 2);
-    pen.lineTo(to, y + ROW / 2);
+    pen.moveTo(from, line);
+    pen.lineTo(to, line);
     pen.stroke();
     pen.setLineDash([]);
   } else if (part.look !== "released") {
@@ -466,7 +467,8 @@ function show(index, isNear) {
     redraw();
     return;
   }
-  look(reach - span / 2, reach + span / 2);
+  const from = Math.max(reach - span / 2, bounds().from);
+  look(from, from + span);
 }
 
 // Choosing -----------------------------------------------------------------------------------------
