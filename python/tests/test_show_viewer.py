@@ -3,6 +3,7 @@
 from __future__ import annotations
 
 import json
+import os
 from collections.abc import AsyncIterator
 from contextlib import asynccontextmanager
 from html.parser import HTMLParser
@@ -93,6 +94,13 @@ async def mouse(tab: browser.Tab, kind: str, left: float, top: float, **more: ob
 async def told(tab: browser.Tab, part: str) -> str:
     found: str = await tab.value(f"document.getElementById({part!r}).textContent")
     return found
+
+
+async def picture(tab: browser.Tab, folder: Path, name: str) -> None:
+    """Takes a picture, for the docs if HOURSTABLE_PICTURES names their folder."""
+    path = Path(os.environ.get("HOURSTABLE_PICTURES") or folder) / name
+    await tab.picture(path)
+    assert path.stat().st_size > 10_000
 
 
 def test_a_page_loads_nothing() -> None:
@@ -191,10 +199,13 @@ async def test_hostile_words_are_text(tmp_path: Path) -> None:
 async def test_it_is_light_dark_and_printed(tmp_path: Path) -> None:
     pixel = "[...pen.getImageData(canvas.width - 3, canvas.height - 3, 1, 1).data].slice(0, 3)"
     async with opened(tmp_path / "page.html", page_of(read(of_logs(COMMANDS, MOVE, HELLO)))) as tab:
+        await tab.value("look(0, 60); pick(data.columns.kind.lastIndexOf(1)); draw()")
         await tab.scheme("light")
         await tab.until(f"{pixel}.every((it) => it > 220)")
+        await picture(tab, tmp_path, "trace-light.png")
         await tab.scheme("dark")
         await tab.until(f"{pixel}.every((it) => it < 60)")
+        await picture(tab, tmp_path, "trace-dark.png")
         await tab.do("Emulation.setEmulatedMedia", media="print",
                      features=[{"name": "prefers-color-scheme", "value": "dark"}])
         await tab.until(f"{pixel}.every((it) => it > 220)")

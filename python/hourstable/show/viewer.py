@@ -68,6 +68,12 @@ class Data:
             found.append(f"the task does not own the key in generation {call.not_owner}")
         return ". ".join(it for it in found if it)
 
+    def what(self, call: Call) -> str:
+        """Returns the words of a call, with its key if it is known."""
+        head = self.trace.head
+        key = call.members.get("key", head.key if call.slice_key == head.slice_key else None)
+        return call_words(call) if key is None else f"{call_words(call)}, key {key}"
+
     def decides(self, call: Call) -> int:
         """Returns the number of the grant whose lease decides a reply, 0 if none does."""
         rule = call.reason.rule if call.reason else None
@@ -87,7 +93,7 @@ class Data:
         row = self.rows[call.place.call] = len(self.columns["at"])
         reply = plain_line(call.reply) if self.trace.head.of_logs and call.reply else ""
         told = {
-            "at": self.now, "lane": self.lane_of(call), "kind": self.kind_of(call), "what": what(call),
+            "at": self.now, "lane": self.lane_of(call), "kind": self.kind_of(call), "what": self.what(call),
             "reply": reply or (line_of(call.reply) if call.reply else "not judged"), "why": self.why(call),
             "decides": self.decides(call), "place": self.standing(call.place), "number": call.place.call,
             "ticket": str(call.members.get("ticket", "")),
@@ -187,17 +193,16 @@ def spans_of_lease(lane: int, lease: Lease) -> Iterator[list[Any]]:
     yield from spans_of_item(lane, lease.kind, lease.item(), lease.number)
 
 
-def what(call: Call) -> str:
+def call_words(call: Call) -> str:
     """Returns the word of a call, and its members with their names."""
     members = call.members
     if "assigner" in members and call.do != "take":
         return f"{call.do} assigner {members['assigner']} at {call.at}"
     try:
-        told = report.call_words(call)
+        return report.call_words(call)
     except (KeyError, TypeError):  # a step that delivers what was not made
-        told = " ".join(f"{name} {members[name]}" for name in ("task", "clerk", "number", "at") if name in members)
-        return f"{call.do} {told}"
-    return f"{told}, key {members['key']}" if "key" in members else told
+        told = (f"{name} {members[name]}" for name in ("task", "clerk", "number", "at") if name in members)
+        return " ".join([call.do, *told])
 
 
 def heading(trace: Trace, drawn: int) -> str:

@@ -22,13 +22,15 @@ CLERK = frozenset("learn look forget".split())
 
 
 class Asked(NamedTuple):
-    """What is asked of logs: their names and texts, the lines of each that were left out, a key, and a drift."""
+    """What is asked of logs: their names and texts, the lines of each that were left out, a key, perhaps by its text,
+    and a drift."""
 
     names: list[str]
     texts: list[bytes]
     torn: list[frozenset[int]]
     slice_key: int | None = None
     drift: tuple[int, int, int] | None = None
+    key: str | None = None
 
 
 class Logs:
@@ -54,6 +56,7 @@ class Logs:
     def trace(self) -> Iterator[Members]:
         """Yields the lines of the trace."""
         shown: Members = {} if self.asked.slice_key is None else {"slice_key": str(self.asked.slice_key)}
+        shown.update({} if self.asked.key is None else {"key": self.asked.key})
         torn = [{"log": log, "line": line} for log, lines in enumerate(self.asked.torn) for line in sorted(lines)]
         more = {"torn": torn, **shown} if torn else shown
         yield {"trace": 1, "of": "logs", "job": self.job, "logs": self.asked.names, **more}

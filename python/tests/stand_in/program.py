@@ -71,7 +71,7 @@ def of_logs(chosen: argparse.Namespace) -> Iterator[Members]:
     if chosen.drift is not None:
         extra, per, grain = map(int, chosen.drift.split("/"))
         numbers = (extra, per, grain)
-    trace = Logs(Asked(chosen.logs, texts, torn, key, numbers)).trace()
+    trace = Logs(Asked(chosen.logs, texts, torn, key, numbers, chosen.key)).trace()
     left_out = ("call", "stretch", "broken") if chosen.no_calls else ()
     return (it for it in trace if not any(name in it for name in left_out))
 
