@@ -199,7 +199,8 @@ async def test_hostile_words_are_text(tmp_path: Path) -> None:
 async def test_it_is_light_dark_and_printed(tmp_path: Path) -> None:
     pixel = "[...pen.getImageData(canvas.width - 3, canvas.height - 3, 1, 1).data].slice(0, 3)"
     async with opened(tmp_path / "page.html", page_of(read(of_logs(COMMANDS, MOVE, HELLO)))) as tab:
-        await tab.value("look(0, 60); pick(data.columns.kind.lastIndexOf(1)); draw()")
+        denied = "data.columns.reply.findLastIndex((it) => it.startsWith('denied not-owned'))"
+        await tab.value(f"look(0, 60); pick({denied}); draw()")
         await tab.scheme("light")
         await tab.until(f"{pixel}.every((it) => it > 220)")
         await picture(tab, tmp_path, "trace-light.png")
