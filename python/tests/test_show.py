@@ -12,6 +12,7 @@ import needed
 
 needed.library()
 
+import random_scripts  # noqa: E402
 from hourstable.show import pictures, report, sentences, trace, views  # noqa: E402
 from showing import (  # noqa: E402
     COMMANDS, SCRIPTS, TOP, keys_of, of_logs, of_script, proved, read, show, stand_in, written,
@@ -62,6 +63,16 @@ def test_a_script_is_drawn(name: str) -> None:
     for key in keys_of(path)[:3]:
         found = read(of_script(path, key))
         assert pictures.script_picture(found, with_clerks=False) == written("timeline", f"--key={key}", str(path))
+
+
+@pytest.mark.parametrize("seed", range(10))
+def test_a_random_script_is_explained_and_drawn(tmp_path: Path, seed: int) -> None:
+    path, key = tmp_path / "script.json", random_scripts.KEYS[seed % len(random_scripts.KEYS)]
+    path.write_text(json.dumps(random_scripts.script(seed, 250)), encoding="utf-8")
+    found = read(of_script(path, key))
+    assert sentences.explained(found, numbered=True) == written("explain", "--number", str(path))
+    drawn = pictures.script_picture(found, with_clerks=True)
+    assert drawn == written("timeline", "--clerks", f"--key={key}", str(path))
 
 
 def test_the_pictures_of_the_pages_are_drawn() -> None:

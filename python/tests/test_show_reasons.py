@@ -2,7 +2,9 @@
 docs/FORMATS.md alone. The stretches of a key are where it is served."""
 
 import itertools
+import json
 from collections.abc import Iterable, Iterator
+from pathlib import Path
 
 import pytest
 
@@ -10,6 +12,7 @@ import needed
 
 needed.library()
 
+import random_scripts  # noqa: E402
 from hourstable.show.trace import Call, Rule, Trace  # noqa: E402
 from showing import COMMANDS, SCRIPTS, keys_of, of_logs, of_script, read  # noqa: E402
 from test_show import played  # noqa: E402
@@ -98,6 +101,13 @@ def check(call: Call) -> None:
         check_refusal(call)
 
 
+def random_traces(folder: Path) -> Iterator[Trace]:
+    for seed in range(20, 30):
+        path = folder / f"{seed}.json"
+        path.write_text(json.dumps(random_scripts.script(seed, 250)), encoding="utf-8")
+        yield read(of_script(path, random_scripts.KEYS[seed % len(random_scripts.KEYS)]))
+
+
 def traces() -> Iterator[Trace]:
     for name in played():
         yield read(of_script(SCRIPTS / f"{name}.json"))
@@ -105,9 +115,9 @@ def traces() -> Iterator[Trace]:
         yield read(of_logs(COMMANDS, list(names)))
 
 
-def test_each_reason_decides_its_reply() -> None:
+def test_each_reason_decides_its_reply(tmp_path: Path) -> None:
     many: dict[str, int] = {}
-    for trace in traces():
+    for trace in itertools.chain(traces(), random_traces(tmp_path)):
         for call in trace.calls:
             check(call)
             which = call.ground or call.word
@@ -195,6 +205,15 @@ def test_stretches_are_where_a_key_is_served() -> None:
             many += check_stretches(trace)
             check_edges(trace)
     assert many >= 48
+
+
+def test_stretches_of_random_scripts_are_where_a_key_is_served(tmp_path: Path) -> None:
+    many = stretches = 0
+    for trace in random_traces(tmp_path):
+        many += check_stretches(trace)
+        check_edges(trace)
+        stretches += len(trace.stretches)
+    assert many > 100 and stretches > 10
 
 
 def test_each_process_of_a_task_has_its_stretches() -> None:
