@@ -111,9 +111,31 @@ def test_a_command_line_shows_what_is_stored(folder: Path, tmp_path: Path, name:
     assert shown(folder, tmp_path, name) == as_written(name)
 
 
-@pytest.mark.parametrize("name", [it for it in stored("audit") if it not in ("audit-without-logs", "audit-no-drift")])
-def test_a_report_is_what_is_stored(folder: Path, tmp_path: Path, name: str) -> None:
+@pytest.mark.parametrize("name", [
+    "audit-two-files", "audit-dash", "audit-torn-last-line", "audit-all", "audit-drift-broken", "audit-not-json",
+    "audit-missing-log", "audit-two-jobs",
+])
+def test_a_command_line_reports_what_is_stored(folder: Path, tmp_path: Path, name: str) -> None:
     assert shown(folder, tmp_path, name) == as_written(name)
+
+
+def of_files() -> list[str]:
+    """Returns the stored audits that judge files."""
+    found = [it for it in stored("audit") if as_written(it)[2] < 2]
+    return [it for it in found if "-" not in (COMMANDS / f"{it}.words").read_text().splitlines()]
+
+
+@pytest.mark.parametrize("name", of_files())
+def test_a_report_is_what_is_stored(name: str) -> None:
+    words = (COMMANDS / f"{name}.words").read_text().splitlines()[1:]
+    drift = None
+    if "--drift" in words:
+        place = words.index("--drift")
+        extra, per, grain = map(int, words[place + 1].split("/"))
+        drift, words = (extra, per, grain), words[:place] + words[place + 2:]
+    names = [it for it in words if not it.startswith("--")]
+    found = read(of_logs(COMMANDS, names, drift=drift))
+    assert report.report(found, every="--all" in words) == as_written(name)[0].decode()
 
 
 LATER = re.compile(r"steps (\d+)\ncalls table (\d+)(.*)\ntimely no: (\S+):(\d+) read (\d+), the table read (\d+)")
