@@ -147,6 +147,23 @@ async def test_it_zooms_and_moves(tmp_path: Path) -> None:
         assert await span(tab) == pytest.approx(first)
 
 
+async def test_clocks_that_begin_late_fill_the_picture(tmp_path: Path) -> None:
+    begun = 1 << 60
+    calls = [
+        Call(Place(1, 0, 1), "open", {"task": 1, "life": 0}, {"reply": "opened", "life": 0}),
+        Call(Place(2, 0, 2), "start", {"task": 1, "life": 1, "at": begun + 1}, {"reply": "started", "life": 1}),
+        Call(Place(3, 0, 3), "start", {"task": 1, "life": 2, "at": begun + 101}, {"reply": "started", "life": 2}),
+    ]
+    page = page_of(Trace(Head(True, JOB, ("task-1.jsonl",)), End(3), calls))
+    async with opened(tmp_path / "page.html", page) as tab:
+        first, end = await span(tab)
+        assert -10 < first <= 0 and 100 < end < 120
+        assert await tab.value("data.base") == str(begun + 1)
+        await key(tab, "n")
+        assert await told(tab, "what") == "open task 1 life 0"
+        assert await told(tab, "where") == f"task-1.jsonl:1, at {begun + 1}"
+
+
 async def test_a_click_tells_the_reason(tmp_path: Path) -> None:
     found = read(of_script(SCRIPTS / "bridge-carries-a-key-over-a-change.json", "hello"))
     async with opened(tmp_path / "page.html", page_of(found)) as tab:

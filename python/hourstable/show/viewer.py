@@ -38,7 +38,9 @@ class Data:
         self.heard: dict[int, int] = {}
         self.sent: dict[tuple[str, str], int] = {}  # who sent a message, by its kind and its number
         self.arrows: list[tuple[int, int, int]] = []
-        self.now = 0
+        # Calls without a reading are at the last one before them, or else at the first one.
+        readings = (it.at for it in (*trace.calls, *trace.rest))
+        self.now = next((it for it in readings if it is not None), 0)
 
     def lane_of(self, call: Call) -> int:
         if call.do in TASK_CALLS or call.do == "sample":
@@ -164,7 +166,7 @@ class Data:
                 yield from spans_of_item(self.lane_of(call), "handles", item, 0)
 
     def value(self) -> dict[str, Any]:
-        """Returns the data as JSON has them. Readings are counted from the lowest one."""
+        """Returns the data as JSON has them. Readings are counted from the lowest one of a call."""
         for call in (*self.trace.calls, *self.trace.rest):
             self.add(call)
         fault = self.add_fault()
@@ -173,7 +175,7 @@ class Data:
             [self.lanes[f"task {task}"], *span]
             for task, found in spans_of(self.trace).items() if f"task {task}" in self.lanes for span in found
         ]
-        base = min([*self.columns["at"], *(it[3] for it in spans), *(it[1] for it in stretches)], default=0)
+        base = min(self.columns["at"], default=0)
         self.columns["at"] = [it - base for it in self.columns["at"]]
         return {
             "title": heading(self.trace, len(self.rows)), "base": str(base), "lanes": list(self.lanes),

@@ -11,7 +11,7 @@ const TOP = 34; // of the numbers of the readings
 const ROW = 20, GAP = 8;
 const COLUMN = 2; // pixels, of many calls
 const FEW = 400; // things in view up to which each is drawn with its label, and messages as arrows
-const MOST_LEVELS = 3; // of a row
+const MOST_LEVELS = 5; // of a row
 const MOST_HEIGHT = 12000; // pixels, which a canvas surely has; lanes below are left out
 const LEGEND = [
   ["guard", "guard lease held"], ["bridge", "bridge lease held"], ["out", "lease out, not held"],
@@ -231,7 +231,8 @@ function drawAxis() {
     pen.moveTo(x(it), TOP - 8);
     pen.lineTo(x(it), height);
     pen.stroke();
-    pen.fillText(String(base + BigInt(Math.round(it))), x(it), 14);
+    const words = String(base + BigInt(Math.round(it)));
+    if (x(it) - pen.measureText(words).width / 2 > LEFT - 8) pen.fillText(words, x(it), 14);
   }
   pen.textAlign = "left";
 }
