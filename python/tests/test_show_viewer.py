@@ -113,6 +113,19 @@ def test_a_page_loads_nothing() -> None:
     assert text == page_of(read(of_logs(COMMANDS, MOVE, HELLO))), "the same trace makes another page"
 
 
+def test_generations_are_bands_from_one_commit_to_the_next() -> None:
+    found = read(of_script(SCRIPTS / "bridge-carries-a-key-over-a-change.json"))
+    commits = [it for it in found.calls if it.word == "committed"]
+    assert len(commits) > 1
+    ends = [*(it.at for it in commits[1:]), None]
+    value = viewer.Data(found, whole(found)).value()
+    base = int(value["base"])
+    assert value["bands"] == [
+        [(it.at or 0) - base, None if end is None else end - base, it.reply["generation"]]
+        for it, end in zip(commits, ends)
+    ]
+
+
 async def test_it_opens_at_the_fault(tmp_path: Path) -> None:
     found = read(of_logs(COMMANDS, ["served-at-the-deadline.jsonl"], HELLO))
     async with opened(tmp_path / "page.html", page_of(found)) as tab:

@@ -94,6 +94,8 @@ class TableStory:
     def __init__(self) -> None:
         self.committed, self.proposed = 0, 0
         self.since, self.last = 0, 0
+        self.begun = 0  # when the committed generation was committed
+        self.ended: list[tuple[int, int, int]] = []
         self.phases: list[Item] = []
         self.terms: list[tuple[int, Members]] = []
         self.events: list[Item] = []
@@ -117,7 +119,12 @@ class TableStory:
             if word == "proposed":
                 self.proposed = reply["generation"]
             else:
-                self.committed, self.proposed = reply["generation"], 0
+                self.ended.append((self.begun, now, self.committed))
+                self.begun, self.committed, self.proposed = now, reply["generation"], 0
+
+    def generations(self) -> list[tuple[int, int, int]]:
+        """Returns the readings from which and to which each generation was the committed one, and its number."""
+        return [*self.ended, (self.begun, FOREVER, self.committed)]
 
     def close_phase(self, now: int, first: int) -> None:
         if self.since < now and first < now:

@@ -182,6 +182,10 @@ class Data:
             "columns": self.columns, "arrows": self.arrows, "fault": fault, "report": found_words(self.trace),
             "spans": [[*it[:3], it[3] - base, None if it[4] == FOREVER else it[4] - base, *it[5:]] for it in spans],
             "stretches": [[lane, first - base, end - base] for lane, first, end in stretches],
+            "bands": [
+                [first - base, None if end == FOREVER else end - base, generation]
+                for first, end, generation in self.story.table.generations() if generation
+            ],
             "heard": self.heard,
         }
 

@@ -7,7 +7,7 @@ const SERVED = 0, DENIED = 1, REFUSED = 2, DONE = 3, WARNED = 4, FAULT = 5, UNJU
 const STACK = [DONE, SERVED, UNJUDGED, REFUSED, DENIED, WARNED, FAULT]; // from the foot of a column up
 const ARROWS = ["grant", "note", "assignment"];
 const LEFT = 96; // pixels, of the names of lanes and rows
-const TOP = 34; // of the numbers of the readings
+const TOP = 44; // of the numbers of the readings, and of the generations
 const ROW = 20, GAP = 8;
 const COLUMN = 2; // pixels, of many calls
 const FEW = 400; // things in view up to which each is drawn with its label, and messages as arrows
@@ -200,18 +200,20 @@ function draw() {
   Object.assign(canvas.dataset, { drawn: String(inView), from: String(view.from), to: String(view.to) });
 }
 
-// Bands behind all lanes: of the generations that are committed, those with an even number are darker.
+// Bands behind all lanes, from one commit to the next: those of even generations are darker.
 function drawGenerations() {
-  const table = lanes.find((it) => it.name === "table");
-  const phases = table && table.rows.find((it) => it.name === "phase");
-  if (!phases) return;
-  for (const level of phases.levels) {
-    for (const span of level.spans) {
-      const generation = Number((span.words.match(/generation (\d+)/) || [0, 0])[1]);
-      if (span.to < view.from || span.from > view.to || !span.words.startsWith("steady") || generation % 2) continue;
+  for (const [begin, end, generation] of data.bands) {
+    const to = end === null ? Infinity : end;
+    if (to < view.from || begin > view.to) continue;
+    const left = Math.max(x(begin), LEFT), right = Math.min(x(to), wide);
+    if (generation % 2 === 0) {
       pen.fillStyle = colours.band;
-      pen.fillRect(Math.max(x(span.from), LEFT), TOP, Math.min(x(span.to), wide) - Math.max(x(span.from), LEFT), height);
+      pen.fillRect(left, TOP, right - left, height);
     }
+    const words = `generation ${generation}`;
+    if (pen.measureText(words).width + 8 > right - left) continue;
+    pen.fillStyle = colours.soft;
+    pen.fillText(words, left + 4, TOP - 4);
   }
 }
 
@@ -228,7 +230,7 @@ function drawAxis() {
   for (let it = Math.ceil((view.from + offset) / step) * step - offset; it <= view.to; it += step) {
     if (x(it) < LEFT || base + BigInt(Math.round(it)) < 0n) continue;
     pen.beginPath();
-    pen.moveTo(x(it), TOP - 8);
+    pen.moveTo(x(it), 22);
     pen.lineTo(x(it), height);
     pen.stroke();
     const words = String(base + BigInt(Math.round(it)));
