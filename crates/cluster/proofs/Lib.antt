@@ -9,6 +9,7 @@ pub mod Noting
 pub mod Agreeing
 pub mod LiveLeases
 pub mod Owning
+pub mod GrantOrder
 pub mod Ruling
 pub mod LaterPoints
 pub mod Holding

@@ -42,7 +42,7 @@ pub record TableFacts (skew : ℕ) (calls : List AnsweredTableCall) : Type 0 whe
 
 -- NO NOTE CLOSES THE ROW OF A HELD LEASE
 
-newer_than_its_notes : (task : ℕ) (h : List SliceletCall) (kind : Kind) (grant : Grant) (note : ReleaseNote) → HoldsOwnLeases task h → held_grant kind h ≡ Some grant
+pub newer_than_its_notes : (task : ℕ) (h : List SliceletCall) (kind : Kind) (grant : Grant) (note : ReleaseNote) → HoldsOwnLeases task h → held_grant kind h ≡ Some grant
     → closes note (row_of grant) ≡ true → Contains (notes_sent task h) note → ⊥
 newer_than_its_notes task h kind grant note own is_held closing sent =
     let o = own.own kind grant is_held in
@@ -56,7 +56,7 @@ newer_than_its_notes task h kind grant note own is_held closing sent =
     let above : nat_le grant.number note.number ≡ true = last.1 in
     (grind (arith, nat_tests))
 
-of_closed_task : (note : ReleaseNote) (grant : Grant) → closes note (row_of grant) ≡ true → note.task ≡ grant.task
+pub of_closed_task : (note : ReleaseNote) (grant : Grant) → closes note (row_of grant) ≡ true → note.task ≡ grant.task
 of_closed_task note grant closing =
     let last = and_parts (note.task == grant.task && note.life == grant.life && same_kind note.kind grant.lease.kind) (nat_le grant.number note.number) closing in
     let kinds = and_parts (note.task == grant.task && note.life == grant.life) (same_kind note.kind grant.lease.kind) last.0 in
@@ -67,7 +67,7 @@ abbrev pub FreesSentNotes : List AnsweredTableCall → ℕ → List SliceletCall
 FreesSentNotes calls task h = (note : ReleaseNote) (at : ℕ) (answer : Result TableReply TableError) → note.task ≡ task
     → Contains calls (answered_call (call.Free note at) answer) → Contains (notes_sent task h) note
 
-held_unfreed : (calls : List AnsweredTableCall) (task : ℕ) (h : List SliceletCall) (kind : Kind) (grant : Grant) → FreesSentNotes calls task h → HoldsOwnLeases task h
+pub held_unfreed : (calls : List AnsweredTableCall) (task : ℕ) (h : List SliceletCall) (kind : Kind) (grant : Grant) → FreesSentNotes calls task h → HoldsOwnLeases task h
     → held_grant kind h ≡ Some grant → IsFreed calls grant → ⊥
 held_unfreed calls task h kind grant frees own is_held freed =
     let o = own.own kind grant is_held in
@@ -76,6 +76,15 @@ held_unfreed calls task h kind grant frees own is_held freed =
     let among = subst (λ (cs : List AnsweredTableCall). Contains cs freed_call) (sym freed.parts)
     (Contains-append_right freed.later (freed_call ∷ freed.before) freed_call (here freed_call freed.before)) in
     newer_than_its_notes task h kind grant freed.note own is_held freed.closed (frees freed.note freed.at (Ok freed.reply) of_task among)
+
+-- a live lease that a task holds is of the committed generation or a later one
+pub reached : (skew : ℕ) (calls : List AnsweredTableCall) (task : ℕ) (h : List SliceletCall) (at : ℕ) (kind : Kind) (grant : Grant) → FreesSentNotes calls task h
+    → HoldsOwnLeases task h → IsSent calls grant → grant.lease.ends + skew ≡ grant.table_ends
+    → (IsOut calls (last_reading calls) grant → commits_in calls ≤ grant.lease.generation) → last_reading calls ≤ at + skew
+    → held_grant kind h ≡ Some grant → at < grant.lease.ends → commits_in calls ≤ grant.lease.generation
+reached skew calls task h at kind grant frees own sent ends young timely is_held live =
+    let runs : last_reading calls < grant.table_ends = omega (arith, ends, live, timely) in
+    young (record { sent = sent; runs = runs; unfreed = held_unfreed calls task h kind grant frees own is_held })
 
 -- WHAT A LIVE LEASE COVERS
 
@@ -96,7 +105,7 @@ covered_now Bridge calls key grant guard low high c =
     either : (g n : ℕ) → n ≤ g → g ≤ n + 1 → (g ≡ n) ⊎ (g ≡ n + 1)
     either g n low high = grind arith
 
-most_next : (n : ℕ) (p : Option Slicing) → newest_with n p ≤ n + 1
+pub most_next : (n : ℕ) (p : Option Slicing) → newest_with n p ≤ n + 1
 most_next n None = omega arith
 most_next n (Some slicing) = omega arith
 
@@ -106,9 +115,7 @@ pub lease_owner : (skew : ℕ) (calls : List AnsweredTableCall) (task : ℕ) (h 
     → held_grant kind h ≡ Some grant → at < grant.lease.ends → covers_by_owners calls key grant ≡ true
     → owns (slices_of (committed_in calls)) key task ≡ true
 lease_owner skew calls task h key at kind grant table frees own sent timely is_held live covered =
-    let ends = table.skewed grant sent in
-    let runs : last_reading calls < grant.table_ends = omega (arith, ends, live, timely) in
-    let young = table.young grant (record { sent = sent; runs = runs; unfreed = held_unfreed calls task h kind grant frees own is_held }) in
+    let young = reached skew calls task h at kind grant frees own sent (table.skewed grant sent) (table.young grant) timely is_held live in
     let newest = table.newest grant sent in
     let next = most_next (commits_in calls) (pending_in calls) in
     let owned = covered_now grant.lease.kind calls key grant (table.guard grant sent) young (omega (arith, newest, next)) covered in

@@ -18,7 +18,7 @@ use Rattle.cluster.proofs.Sending.{held_sent}
 use Rattle.cluster.proofs.LiveLeases.{TableFacts, FreesSentNotes, Covering, by_verdict, lease_owner}
 
 -- the table's clock is by at most the skew above a timely reading of a task
-last_near : (past : Past) (skew at : ℕ) → AllByRecursion (IsNear skew (TaskClock at)) (readings past) → last_reading (table_calls past) ≤ at + skew
+pub last_near : (past : Past) (skew at : ℕ) → AllByRecursion (IsNear skew (TaskClock at)) (readings past) → last_reading (table_calls past) ≤ at + skew
 last_near past skew at all =
     elim (last_read past) [
       | inl zero ↦ omega (arith, zero)
@@ -26,7 +26,7 @@ last_near past skew at all =
     ]
 
 -- each note of a task that was freed is one of those that it sent
-frees_sent_notes : (job : Continued) (past : Past) (task : ℕ) → IsRun job past → FreesSentNotes (table_calls past) task (task_calls task past)
+pub frees_sent_notes : (job : Continued) (past : Past) (task : ℕ) → IsRun job past → FreesSentNotes (table_calls past) task (task_calls task past)
 frees_sent_notes job past task run note at answer of_task i =
     subst (λ (t : ℕ). Contains (notes_sent t (task_calls t past)) note) of_task (freed_note_sent job past note at answer run i)
 

@@ -5,6 +5,7 @@ ghost use Rattle.machines.specs.Calls.{answered_call};
 ghost use Rattle.machines.specs.Numbers.{is_within};
 ghost use Rattle.slice_ranges.specs.declared.key.TheConstants.{KEYS};
 ghost use Rattle.lease_rule.specs.declared.lease.Kind.{Kind};
+ghost use Rattle.lease_rule.specs.declared.answer.Verdict.TheVariants.{Allow};
 ghost use Rattle.key_handle.specs.declared.handle.KeyHandle.{KeyHandle};
 ghost use Rattle.grants.specs.declared.table_call.TableCall.TheVariants.{Free};
 ghost use Rattle.grants.specs.declared.table_call.TableReply.{TableReply};
@@ -13,7 +14,7 @@ ghost use Rattle.grants.specs.declared.values.Grant.{Grant};
 ghost use Rattle.grants.specs.declared.values.ReleaseNote.{ReleaseNote};
 ghost use Rattle.grants.specs.Policies.{is_policy};
 ghost use Rattle.lease_table.specs.Calls.{last_reading};
-ghost use Rattle.lease_table.specs.Runs.{IsRun as IsTableRun};
+ghost use Rattle.lease_table.specs.Runs.{IsRun as IsTableRun, commits_in};
 ghost use Rattle.lease_table.specs.Generations.{assignment_in, newest_generation};
 ghost use Rattle.lease_table.specs.OpenRows.{IsSent};
 ghost use Rattle.slicelet.specs.Calls.{held_grant};
@@ -27,10 +28,11 @@ ghost use Rattle.cluster.specs.continued.Runs as continued;
 ghost use Rattle.cluster.specs.continued.Snapshots.{Remembered, IsAllSent, continued_from};
 ghost use Rattle.job_calls.specs.declared.call.ClusterCall.TheVariants as call;
 ghost use Rattle.job_calls.specs.declared.reply.ClusterReply.{ClusterReply};
+ghost use Rattle.job_calls.specs.declared.timing.Reading.TheVariants.{TaskClock};
 ghost use Rattle.cluster.specs.Timing.{IsTimely};
 ghost use Rattle.cluster.specs.Pasts.{Past, event, readings, table_calls, task_calls, history};
 ghost use Rattle.cluster.specs.Deliveries.{notes_made, is_given};
-ghost use Rattle.cluster.specs.Replies.{covers};
+ghost use Rattle.cluster.specs.Replies.{covers, rule_in};
 ghost use Rattle.cluster.specs.Runs.{IsRun};
 ghost use Rattle.cluster.specs.Headline.{MayServe, IsOwner, IsWhileHeld};
 ghost use Rattle.cluster.specs.Promises.{IsServedByRule, IsHeldByRule, IsCheckedByHistory, IsNoteOf, WasRead};
@@ -91,6 +93,32 @@ pub fn known_generations_law()
         → assignment_in generation (table_calls (later ++ past)) ≡ assignment_in generation (table_calls past) }
 {
     lease_table::assignments_law();
+}
+
+/// States that neither commits nor the generations of grants go back.
+///
+/// Commits never become fewer. Of two grants that were sent, the one with the greater number is of
+/// the same generation or a later one.
+pub fn order_law()
+    ensures commits { (later past : Past) → commits_in (table_calls past) ≤ commits_in (table_calls (later ++ past)) }
+    ensures grants { (job : Job) (past : Past) (grant later : Grant) → is_policy job.policy ≡ true → IsRun job past
+        → IsSent (table_calls past) grant → IsSent (table_calls past) later → grant.number ≤ later.number
+        → grant.lease.generation ≤ later.lease.generation }
+{}
+
+/// States that with timely clocks a key is served under no generation before the committed one.
+///
+/// If the rule allows a key at a timely reading, the generation that it returns is the committed
+/// one or a later one.
+pub fn reached_law()
+    ensures { (job : Job) (past : Past) (task key at : ℕ) (kind : Kind) (generation : ℕ) → is_policy job.policy ≡ true → IsRun job past
+        → IsTimely job.policy.skew (TaskClock at ∷ readings past) → rule_in past task key at ≡ Allow kind generation
+        → commits_in (table_calls past) ≤ generation }
+{
+    lease_table::leases_law();
+    lease_table::rows_law();
+    slicelet::held_law();
+    slicelet::covering_lease_law();
 }
 
 /// States that `serve` and `hold` follow the written rule.

@@ -23,7 +23,7 @@ pub use crate::cluster::Cluster;
 pub use actors::{is_within, place_of};
 pub use known::KnownHandle;
 pub use laws::{
-    continued_law, covers_law, handle_law, interval_law, known_generations_law, owner_law,
-    rule_law, sent_law, told_law,
+    continued_law, covers_law, handle_law, interval_law, known_generations_law, order_law,
+    owner_law, reached_law, rule_law, sent_law, told_law,
 };
 pub use timeliness::Timeliness;
