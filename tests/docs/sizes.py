@@ -5,7 +5,7 @@ from collections.abc import Iterator
 from pages import Fault, Page, Result, all_pages
 
 # How many words a page may have, code and comments among them, as `wc -w` counts.
-MOST_WORDS = {"README.md": 900, "docs/PROMISES.md": 8_100, "docs/MODEL.md": 5_400}
+MOST_WORDS = {"README.md": 900, "docs/PROMISES.md": 8_100, "docs/MODEL.md": 5_600}
 # How many characters a cell of a table may have, a link counted by its text.
 MOST_IN_CELL = {"docs/PROMISES.md": 300}
 BETWEEN_CELLS = re.compile(r"(?<!\\)\|")

@@ -1,0 +1,5 @@
+pub mod Every
+pub mod Bytes
+pub mod Shelving
+pub mod Newest
+pub mod Caring

@@ -1,0 +1,4 @@
+pub mod Tokens
+pub mod Giving
+pub mod Requests
+pub mod Shelves

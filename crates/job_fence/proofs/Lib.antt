@@ -1,0 +1,10 @@
+pub mod Tokens
+pub mod Points
+pub mod Reaching
+pub mod Owners
+pub mod Rising
+pub mod Lives
+pub mod Reserved
+pub mod Steady
+pub mod Writing
+pub mod Examples
