@@ -154,6 +154,10 @@ enum hs_code {
     HS_WEIGHT_RANGE = 45, /* the weight of a record is 0 or above 2^32 */
     HS_TOTAL_RANGE = 46,  /* all weights that were gathered would add up to more than 2^40 */
 
+    /* Why there is no fencing token, or a store refuses one. */
+    HS_MANY_OWNERS = 47, /* a slice of the job may have more than one owner */
+    HS_FENCED = 48,      /* the token is below the greatest one that was accepted for the key */
+
     HS_NO_MEMORY = -1, /* out of memory */
     HS_NO_ROOM = -2,   /* the buffer is shorter than `needed`: call again with a longer one */
 
@@ -279,6 +283,10 @@ static inline const char *hs_code_name(int32_t code) {
         return "HS_WEIGHT_RANGE";
     case HS_TOTAL_RANGE:
         return "HS_TOTAL_RANGE";
+    case HS_MANY_OWNERS:
+        return "HS_MANY_OWNERS";
+    case HS_FENCED:
+        return "HS_FENCED";
     case HS_NO_MEMORY:
         return "HS_NO_MEMORY";
     case HS_NO_ROOM:
@@ -648,6 +656,28 @@ int32_t hs_slicelet_hold(const struct hs_place *place, const uint8_t *key, size_
 /* The same by slice key, as hs_slicelet_serve_at. HS_WRONG_FORM, also if no key has this slice key. */
 int32_t hs_slicelet_hold_at(const struct hs_place *place, uint64_t slice_key, uint64_t at, struct hs_key_handle *out,
                             struct hs_told *told);
+
+/* A fencing token, which a task sends to a store with each write of a key: the epoch of the job, the
+ * greatest generation of the held leases that cover the key, and the life of the task, in 4, 8 and 4 bytes,
+ * each with the high byte first. Tokens are compared as bytes: memcmp, or their text in hexadecimal. */
+struct hs_token {
+    uint8_t bytes[16];
+};
+
+/* Writes the token that the task has for a key at the reading `at`. `most` is the most owners of a slice
+ * by the policy of the job, `epoch` a number above those of the jobs before this one that wrote to the same
+ * store. HS_MANY_OWNERS if `most` is above 1, then the codes of hs_slicelet_serve. Takes no memory. */
+int32_t hs_slicelet_token(const struct hs_place *place, uint64_t most, uint32_t epoch, const uint8_t *key,
+                          size_t key_len, uint64_t at, struct hs_token *out);
+
+/* The same by slice key, as hs_slicelet_serve_at. HS_WRONG_FORM, before the others, if no key has this slice key. */
+int32_t hs_slicelet_token_at(const struct hs_place *place, uint64_t most, uint32_t epoch, uint64_t slice_key,
+                             uint64_t at, struct hs_token *out);
+
+/* The store's side: offers a write with a token, where `greatest` is the greatest token with which a write
+ * of the key was accepted, all zero before the first. HS_DONE, and *greatest is the token, or HS_FENCED.
+ * Keep it with what was written, in one transaction. A new owner offers its token before it reads. */
+int32_t hs_fence_accept(struct hs_token *greatest, const struct hs_token *token);
 
 /* Whether the task has held the key of a handle without a break since it took the handle, and may
  * serve it now. HS_WRONG_FORM, HS_STRANGER, HS_BROKEN. Takes no memory. */

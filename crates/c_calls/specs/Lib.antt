@@ -19,3 +19,4 @@ pub mod Gathers
 pub mod TableClocks
 pub mod TaskClocks
 pub mod ClockEvidence
+pub mod Tokens

@@ -28,6 +28,10 @@ pub enum Answer {
     Denied(Ground),
     /// The slicelet refused the call.
     Slicelet(SliceletError),
+    /// A slice of the job may have more than one owner, so there are no tokens.
+    ManyOwners,
+    /// The token is below the greatest one that was accepted.
+    Fenced,
     /// The key handle is not continuous.
     Broken,
     /// The slicelet cannot have made the key handle.
@@ -72,6 +76,8 @@ impl Answer {
             Answer::Done | Answer::Leased(_) | Answer::Committed(_) => 0,
             Answer::Denied(ground) => ground_number(ground),
             Answer::Slicelet(error) => slicelet_number(error),
+            Answer::ManyOwners => 47,
+            Answer::Fenced => 48,
             Answer::Broken => 14,
             Answer::Stranger => 15,
             Answer::Table(error) => table_number(error),

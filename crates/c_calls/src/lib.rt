@@ -27,6 +27,7 @@ pub mod slicelets;
 mod table_clocks;
 pub mod tables;
 mod task_clocks;
+mod tokens;
 mod unread;
 
 pub use answer::Answer;
@@ -39,3 +40,4 @@ pub use plans::plan;
 pub use policy_numbers::{PlanPolicyNumbers, PolicyNumbers};
 pub use table_clocks::{open_table_clock, read_table_clock};
 pub use task_clocks::{new_task_clock, read_task_clock, sample_task_clock};
+pub use tokens::{TokenBytes, accept_token, token, token_at};

@@ -1,7 +1,6 @@
 -- Notes and handles are found by what they say.
-use Rattle.std.proofs.Common.{◌≡◌, ℕ, Bool, List, [], ◌∷◌, refl, ◌∙◌, ap}
+use Rattle.std.proofs.Common.{◌≡◌, ℕ, Bool, refl}
 use Rattle.std.specs.Prelude.{◌&&◌, nat_eq}
-use Rattle.std.specs.List.{AllZip}
 use Rattle.std.specs.Cmp.{nat_eq_equiv}
 use Rattle.lease_rule.specs.declared.lease.Kind.{Kind}
 use Rattle.lease_rule.specs.declared.lease.Kind.TheVariants.{Guard, Bridge}
@@ -28,10 +27,3 @@ same_note_turned a b =
 
 pub same_handle_turned : (a b : KeyHandle) → same_handle a b ≡ same_handle b a
 same_handle_turned a b = four _ _ _ _ _ _ _ _ (swapped a.task b.task) (swapped a.life b.life) (swapped a.key b.key) (swapped a.position b.position)
-
--- clones that are the same, one by one
-pub same_clones : {T : Type 0} (xs ys : List T) → AllZip (λ x y. y ≡ x) xs ys → ys ≡ xs
-same_clones [] [] e = refl
-same_clones [] (y ∷ ys) e = absurd e
-same_clones (x ∷ xs) [] e = absurd e
-same_clones (x ∷ xs) (y ∷ ys) e = ap (λ k. k ∷ ys) e.0 ∙ ap (λ ks. x ∷ ks) (same_clones xs ys e.1)

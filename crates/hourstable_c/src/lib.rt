@@ -22,4 +22,5 @@ mod process_exports;
 mod receipt_exports;
 mod slicelet_exports;
 mod table_exports;
+mod token_exports;
 mod version_exports;

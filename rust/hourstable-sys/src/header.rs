@@ -109,6 +109,10 @@ pub const HS_DEADLINE_RANGE: i32 = 44;
 pub const HS_WEIGHT_RANGE: i32 = 45;
 /// all weights that were gathered would add up to more than 2^40
 pub const HS_TOTAL_RANGE: i32 = 46;
+/// a slice of the job may have more than one owner
+pub const HS_MANY_OWNERS: i32 = 47;
+/// the token is below the greatest one that was accepted for the key
+pub const HS_FENCED: i32 = 48;
 /// out of memory
 pub const HS_NO_MEMORY: i32 = -1;
 /// the buffer is shorter than `needed`: call again with a longer one
@@ -508,6 +512,15 @@ pub struct hs_place {
     pub at: *mut c_void,
 }
 
+/// A fencing token, which a task sends to a store with each write of a key: the epoch of the job, the
+/// greatest generation of the held leases that cover the key, and the life of the task, in 4, 8 and 4 bytes,
+/// each with the high byte first. Tokens are compared as bytes: memcmp, or their text in hexadecimal.
+#[repr(C)]
+#[derive(Clone, Copy, Debug, Default, PartialEq, Eq)]
+pub struct hs_token {
+    pub bytes: [u8; 16],
+}
+
 extern "C" {
     /// Writes the version of the linked library to `out`.
     pub fn hs_library_version(out: *mut hs_library_version);
@@ -585,6 +598,16 @@ extern "C" {
     pub fn hs_slicelet_hold(place: *const hs_place, key: *const u8, key_len: usize, at: u64, out: *mut hs_key_handle, told: *mut hs_told) -> i32;
     /// The same by slice key, as hs_slicelet_serve_at. HS_WRONG_FORM, also if no key has this slice key.
     pub fn hs_slicelet_hold_at(place: *const hs_place, slice_key: u64, at: u64, out: *mut hs_key_handle, told: *mut hs_told) -> i32;
+    /// Writes the token that the task has for a key at the reading `at`. `most` is the most owners of a slice
+    /// by the policy of the job, `epoch` a number above those of the jobs before this one that wrote to the same
+    /// store. HS_MANY_OWNERS if `most` is above 1, then the codes of hs_slicelet_serve. Takes no memory.
+    pub fn hs_slicelet_token(place: *const hs_place, most: u64, epoch: u32, key: *const u8, key_len: usize, at: u64, out: *mut hs_token) -> i32;
+    /// The same by slice key, as hs_slicelet_serve_at. HS_WRONG_FORM, before the others, if no key has this slice key.
+    pub fn hs_slicelet_token_at(place: *const hs_place, most: u64, epoch: u32, slice_key: u64, at: u64, out: *mut hs_token) -> i32;
+    /// The store's side: offers a write with a token, where `greatest` is the greatest token with which a write
+    /// of the key was accepted, all zero before the first. HS_DONE, and *greatest is the token, or HS_FENCED.
+    /// Keep it with what was written, in one transaction. A new owner offers its token before it reads.
+    pub fn hs_fence_accept(greatest: *mut hs_token, token: *const hs_token) -> i32;
     /// Whether the task has held the key of a handle without a break since it took the handle, and may
     /// serve it now. HS_WRONG_FORM, HS_STRANGER, HS_BROKEN. Takes no memory.
     pub fn hs_slicelet_check(place: *const hs_place, handle: *const hs_key_handle, at: u64) -> i32;

@@ -12,6 +12,7 @@ use Rattle.slicelet.specs.declared.next_action.TaskAction.TheVariants.{Start, As
 use Rattle.slicelet.specs.States.{SliceletState, held_in, resumed}
 use Rattle.grants.specs.SliceletCalls.{ended_note}
 use Rattle.slicelet.specs.NextActions.{next_action}
+use Rattle.fence.specs.Giving.{carefully}
 use Rattle.c_calls.specs.declared.answer.Answer.{Answer}
 use Rattle.c_calls.specs.declared.answer.Answer.TheVariants.{Done, Slicelet}
 use Rattle.c_calls.specs.Arguments.{InForm}
@@ -58,4 +59,4 @@ task_action_number Rest = 6
 -- what the task does next in a phase
 abbrev pub IsNextTold : Option Phase → SliceletState → ℕ → ℕ → ℕ → Answer → Type 0
 IsNextTold phase s at was now answer = InForm phase (now ≡ was) answer
-    (λ phase. (answer ≡ Done) × (now ≡ task_action_number (next_action s phase at)))
+    (λ phase. (answer ≡ Done) × (now ≡ task_action_number (carefully s (next_action s phase at))))

@@ -13,6 +13,7 @@ use crate::arguments::{kind_of, task_of};
 use crate::job::job_of;
 use crate::output::give_made;
 use assignment::TaskId;
+use fence::next_careful;
 use grants::{EndedNotes, Phase, ReleaseNote, SliceletError};
 use lease_rule::Kind;
 use slicelet::{Slicelet, TaskAction};
@@ -128,6 +129,8 @@ fn task_action_number(action: TaskAction) -> u32
 
 /// Writes the number of what the task does next about its leases, in a phase of the lease table.
 ///
+/// It never gives up a lease that it must keep for its tokens, whatever the phase.
+///
 /// `WrongForm` if there is no phase.
 pub fn next(slicelet: &Slicelet, phase: Option<Phase>, at: u64, action: &mut u32) -> Answer
     ensures { IsNextTold phase slicelet.now at action.old action.new result }
@@ -135,6 +138,6 @@ pub fn next(slicelet: &Slicelet, phase: Option<Phase>, at: u64, action: &mut u32
     let Some(phase) = phase else {
         return Answer::WrongForm;
     };
-    *action = task_action_number(slicelet.next(phase, at));
+    *action = task_action_number(next_careful(slicelet, phase, at));
     Answer::Done
 }

@@ -1,0 +1,14 @@
+pub mod Checks
+pub mod TableRefusals
+pub mod TaskRefusals
+pub mod Breaking
+pub mod Unbroken
+pub mod Nobody
+pub mod Rules
+pub mod Nearness
+pub mod Refusing
+pub mod Answering
+pub mod Placing
+pub mod LastDenied
+pub mod HeardAt
+pub mod CallAt

@@ -1,0 +1,7 @@
+mod Adding
+mod Breaking
+mod Keeping
+mod Leases
+pub mod Lists
+mod Serving
+mod Tasks

@@ -1,0 +1,4 @@
+pub mod Stretches
+pub mod Tasks
+pub mod Breaks
+pub mod internals
