@@ -156,6 +156,33 @@ func TestBlocksThatAreNotEntered(t *testing.T) {
 		"\"reply\":\"refused stranger\",\"task\":1,\"ticket\":1}\n"), true)
 }
 
+// A block reads the local clock, another goroutine the clock at a later reading, and then the block ends.
+func TestABlockDoesNotTakeItsClockBack(t *testing.T) {
+	task, clock, block := halfTask(t), newClock(t), Block{}
+	succeeds(t, "sample", clock.Sample(0, 6, 0))
+	late := func() (uint64, error) {
+		value, err := clock.Read(40)
+		is(t, "the reading at 40", value, 46)
+		return 30, err
+	}
+	succeeds(t, "enter", task.Enter(clock, late, []byte("hello"), &block))
+	is(t, "the reading of the block", block.At, 36)
+	_, err := clock.Read(35)
+	refuses(t, "before 40", err, ErrClockBack, "clock-back")
+}
+
+// A denied block has no handle of the block before it.
+func TestABlockThatIsDeniedHasNoHandle(t *testing.T) {
+	task, clock, block := halfTask(t), newClock(t), Block{}
+	succeeds(t, "sample", clock.Sample(0, 6, 0))
+	now := func() (uint64, error) { return 1, nil }
+	succeeds(t, "enter", task.EnterAt(clock, now, 7, &block))
+	err := task.EnterAt(clock, now, half, &block)
+	is(t, "whether it is denied", errors.Is(err, ErrNotOwned), true)
+	is(t, "the handle", block.Handle, Handle{})
+	is(t, "the lease", block.Lease, Served{})
+}
+
 // A bridge of generation 4 covers the lower half beside a guard of generation 3.
 func TestCovering(t *testing.T) {
 	task := newSlicelet(t, 2)

@@ -95,6 +95,12 @@ const (
 	ErrTotalRange  = Code(C.HS_TOTAL_RANGE)
 )
 
+// Why there is no fencing token, or a store refuses one.
+const (
+	ErrManyOwners = Code(C.HS_MANY_OWNERS)
+	ErrFenced     = Code(C.HS_FENCED)
+)
+
 // Why a call could not be made. ErrNoRoom is not returned: a call whose text
 // found no room is made again with more.
 const (

@@ -19,6 +19,8 @@ const (
 	ticketHeader  = "Hourstable-Ticket"
 	readingHeader = "Hourstable-Reading"
 	holderHeader  = "Hourstable-Holder"  // the address of the plane that holds the job, if another one handed the call on
+	versionHeader = "Hourstable-Version" // of a call and of its answer
+	speaks        = 1                    // the version of the calls, and the greatest of an answer that is taken
 	requestHeader = "Hourstable-Request" // by which the log of a plane names the request
 	longestWait   = 30 * time.Second     // of a GET that waits
 	usualTimeout  = 5 * time.Second
@@ -300,6 +302,8 @@ func mending(what string) string {
 	switch what {
 	case "connection":
 		return "see that the plane runs and is reached from here"
+	case "version":
+		return "upgrade this task"
 	case "unreadable":
 		return "see that the URL is that of a plane, and what stands between"
 	case "401":
@@ -368,6 +372,7 @@ func (c *control) prepare(posed *http.Request) (sent uint64, err error) {
 		posed.Header.Set("Authorization", "Bearer "+c.secret)
 	}
 	posed.Header.Set("Content-Type", "application/json")
+	posed.Header.Set(versionHeader, strconv.Itoa(speaks))
 	ticket, err := c.tickets.draw()
 	if err != nil {
 		return 0, err
@@ -421,6 +426,10 @@ func (c *control) hear(plane string, silence time.Duration) {
 
 // taken returns the answer of a response, or what is wrong with it.
 func (c *control) taken(response *http.Response, text []byte, sent uint64, asked request) (answer, error) {
+	if says, err := strconv.ParseUint(response.Header.Get(versionHeader), 10, 64); err == nil && says > speaks {
+		why := fmt.Errorf("the answer is of version %d, and this version of Hourstable speaks those up to %d", says, speaks)
+		return answer{}, &unreached{what: "version", why: why}
+	}
 	if status := response.StatusCode; status >= 300 && status != http.StatusConflict {
 		return answer{}, refusal(response, text)
 	}

@@ -125,8 +125,9 @@ func (t *Task) freeWith(ctx context.Context, note []byte, key string) error {
 }
 
 // spawnFree frees a lease while the task goes on.
-func (t *Task) spawnFree(note []byte, life uint32) {
-	key := t.lives.key(life)
+func (t *Task) spawnFree(note []byte, life uint32) { t.spawnFreeWith(note, t.lives.key(life)) }
+
+func (t *Task) spawnFreeWith(note []byte, key string) {
 	t.supervisor.spawn("free", func() error {
 		err := t.freeWith(t.lasting, note, key)
 		if errors.Is(err, context.DeadlineExceeded) || errors.Is(err, context.Canceled) {

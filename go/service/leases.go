@@ -18,6 +18,7 @@ type leases struct {
 	job      string
 	task     uint64
 	life     uint32
+	epoch    uint32 // of the job; 0 if it is not known
 	slicelet *hourstable.Slicelet
 	clock    *hourstable.TaskClock
 	local    func() (uint64, error)
@@ -28,6 +29,23 @@ type leases struct {
 	mutex            sync.RWMutex
 	started, sampled bool
 	held             map[hourstable.Kind]hourstable.Grant
+	greatest         heard
+}
+
+// heard is the greatest number of a grant that a life heard, and the greatest
+// generation. Planes notice by it that their store went back.
+type heard struct {
+	Number     uint64 `json:"number"`
+	Generation uint64 `json:"generation"`
+}
+
+func (h *heard) take(grant hourstable.Grant) {
+	if grant.Number > h.Number {
+		h.Number = grant.Number
+	}
+	if grant.Generation > h.Generation {
+		h.Generation = grant.Generation
+	}
 }
 
 // begin begins a life: last is the one before it.
@@ -170,8 +188,19 @@ func (l *leases) hear(message []byte, grant hourstable.Grant, policy hourstable.
 	}
 	if !receipt.Evidence {
 		l.held[grant.Kind] = grant
+		l.greatest.take(grant)
 	}
 	return !receipt.Evidence, nil
+}
+
+// most returns the greatest that the life heard.
+func (l *leases) most() heard {
+	if l == nil {
+		return heard{}
+	}
+	l.mutex.RLock()
+	defer l.mutex.RUnlock()
+	return l.greatest
 }
 
 // behind returns the error of a call: ErrClockBehind if the clock refused, so that the
@@ -210,6 +239,7 @@ func (l *leases) enter(lease *Lease) error {
 	return l.ask(lease, func(block *hourstable.Block) error {
 		err := l.slicelet.EnterAt(l.clock, l.local, lease.sliceKey, block)
 		lease.Kind, lease.Generation, lease.handle = block.Lease.Kind, block.Lease.Generation, block.Handle
+		lease.covering = block.Lease.Covering
 		return err
 	})
 }
@@ -263,6 +293,24 @@ func (l *leases) lease(kind hourstable.Kind) (hourstable.Grant, bool) {
 	defer l.mutex.RUnlock()
 	grant, isHeld := l.held[kind]
 	return grant, isHeld
+}
+
+// mayGiveUpBridge says whether a bridge lease may be given up, so that no token falls: while
+// a guard lease of its generation or a later one is held.
+func (l *leases) mayGiveUpBridge() bool {
+	l.mutex.RLock()
+	defer l.mutex.RUnlock()
+	guard, hasGuard := l.held[hourstable.Guard]
+	bridge, hasBridge := l.held[hourstable.Bridge]
+	return !hasBridge || hasGuard && bridge.Generation <= guard.Generation
+}
+
+// toGiveUp returns the kinds of leases in the order in which a life that ends gives them up.
+func (l *leases) toGiveUp() []hourstable.Kind {
+	if l.mayGiveUpBridge() {
+		return []hourstable.Kind{hourstable.Bridge, hourstable.Guard}
+	}
+	return []hourstable.Kind{hourstable.Guard}
 }
 
 func (l *leases) hasLease() bool {

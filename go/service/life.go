@@ -9,8 +9,9 @@ import (
 	"hourstable"
 )
 
-// comeIn asks with a life that has not begun, and begins it once it is let in, so that a
-// process that waits for another one logs nothing.
+// comeIn asks to be let in with a life that has not begun, and begins it then, so that a
+// process that waits for another one logs nothing, and no lease is asked for before the
+// start of its life.
 func (t *Task) comeIn(ctx context.Context) (time.Duration, error) {
 	if t.coming == nil {
 		life, err := t.drawLife(ctx)
@@ -20,7 +21,7 @@ func (t *Task) comeIn(ctx context.Context) (time.Duration, error) {
 		t.coming = &life
 	}
 	life := *t.coming
-	made, err := t.askWith(ctx, life.Life, func(answer) {})
+	made, epoch, err := t.letIn(ctx, life.Life)
 	if err != nil {
 		return 0, err
 	}
@@ -28,12 +29,56 @@ func (t *Task) comeIn(ctx context.Context) (time.Duration, error) {
 		t.reached(nil)
 		return t.refused(life.Life, made.body)
 	}
-	held, err := t.beginLife(life)
+	if now, err := t.config.local(); err != nil || now-made.sent >= t.policy.Guard/2 {
+		return 0, err // it was stopped, and another life may be let in since
+	}
+	held, err := t.beginLife(life, epoch)
 	if err != nil {
 		return 0, err
 	}
 	t.lives.heard(life.Life)
+	t.freeDropped()
 	return t.hear(held, made)
+}
+
+// letIn asks to be let in with a life. epoch is that of the job, 0 if a plane of a version
+// up to 1.0 answered, which gives a lease instead.
+func (t *Task) letIn(ctx context.Context, life uint32) (made answer, epoch uint32, err error) {
+	body, err := t.lives.asking(t.config.Task, life, true, heard{})
+	if err != nil {
+		return answer{}, 0, err
+	}
+	made, err = t.control.call(ctx, request{
+		method: http.MethodPost, path: "/grant", body: body, late: func(answer) {},
+		read: func(made answer) error { return t.isLetIn(made, life) },
+	})
+	return made, made.letIn().Epoch, err
+}
+
+// letInMembers are those of the answer to a life that asks to be let in.
+type letInMembers struct {
+	LetIn uint32 `json:"let_in"`
+	Epoch uint32
+}
+
+// letIn returns the members by which a life is let in, zero if it is not.
+func (a answer) letIn() (told letInMembers) {
+	if a.status != http.StatusOK || a.object(&told) != nil {
+		return letInMembers{}
+	}
+	return told
+}
+
+// isLetIn returns why an answer is none to a life that asks to be let in.
+func (t *Task) isLetIn(made answer, life uint32) error {
+	told := made.letIn()
+	if told.LetIn == 0 {
+		return t.isGrant(made, life)
+	}
+	if made.reading == nil || told.LetIn != life || told.Epoch == 0 {
+		return fmt.Errorf("life %d was let in otherwise: %.80q", life, made.body)
+	}
+	return nil
 }
 
 // drawLife draws a life that nobody else has.
@@ -59,18 +104,18 @@ func (t *Task) drawLife(ctx context.Context) (ownLife, error) {
 }
 
 // beginLife begins a life that is let in, with a clock of its own.
-func (t *Task) beginLife(life ownLife) (*leases, error) {
+func (t *Task) beginLife(life ownLife, epoch uint32) (*leases, error) {
 	t.coming = nil
 	oldest := t.config.Oldest
 	if oldest == 0 {
-		oldest = t.policy.Guard * 9 / 10
+		oldest = t.policy.Guard
 	}
 	clock, err := hourstable.NewTaskClock(t.config.Drift, oldest)
 	if err != nil {
 		return nil, err
 	}
 	held := &leases{
-		job: t.config.Job, task: t.config.Task, life: life.Life, clock: clock, local: t.config.local,
+		job: t.config.Job, task: t.config.Task, life: life.Life, epoch: epoch, clock: clock, local: t.config.local,
 		tickets: t.tickets, log: t.log,
 	}
 	if err := held.begin(life.Last); err != nil {
@@ -79,7 +124,7 @@ func (t *Task) beginLife(life ownLife) (*leases, error) {
 	t.mutex.Lock()
 	defer t.mutex.Unlock()
 	t.counts.Lives++
-	t.leases, t.isWaiting = held, false
+	t.leases, t.isWaiting, t.drainsItself = held, false, false
 	t.publish()
 	return held, nil
 }
@@ -117,23 +162,78 @@ func (t *Task) notLetIn(life uint32, told denial) (time.Duration, error) {
 	return after, nil
 }
 
-// endLife gives up all leases of the life, and ends it.
+// endLife gives up all leases of the life, and ends it. A bridge lease that a task must
+// keep for its tokens is freed once the next life has begun.
 func (t *Task) endLife(ctx context.Context) error {
 	held := t.life()
 	if held == nil {
 		return nil
 	}
 	var failed error
-	for _, kind := range kinds {
+	for _, kind := range held.toGiveUp() {
 		if _, isHeld := held.lease(kind); isHeld {
 			if err := t.giveUp(ctx, held, kind, true); err != nil {
 				failed = err
 			}
 		}
 	}
+	if bridge, isHeld := held.lease(hourstable.Bridge); isHeld {
+		t.move(bridge.Ranges)
+		t.leaveKeys(bridge.Ranges, bridge.Ends)
+		t.drop(held)
+	}
 	t.notice()
 	t.forget(held)
 	return failed
+}
+
+// endAll ends the life, and frees what it kept by the notes of a life that has ended: the
+// next one begins, and asks for no lease.
+func (t *Task) endAll(ctx context.Context) error {
+	if err := t.endLife(ctx); err != nil || !t.hasDropped() {
+		return err
+	}
+	_, err := t.comeIn(ctx)
+	if held := t.life(); held != nil {
+		t.forget(held)
+	}
+	return err
+}
+
+// droppedLife is a life that has ended with a lease, and its key.
+type droppedLife struct {
+	life uint32
+	key  string
+}
+
+// drop takes that a life ends whose bridge lease is to be freed by the notes of a life that
+// has ended.
+func (t *Task) drop(held *leases) {
+	key := t.lives.key(held.life)
+	t.mutex.Lock()
+	defer t.mutex.Unlock()
+	t.dropped = append(t.dropped, droppedLife{held.life, key})
+}
+
+func (t *Task) hasDropped() bool {
+	t.mutex.Lock()
+	defer t.mutex.Unlock()
+	return len(t.dropped) > 0
+}
+
+// freeDropped frees what lives may have that were dropped, once a later one is let in.
+func (t *Task) freeDropped() {
+	t.mutex.Lock()
+	dropped := t.dropped
+	t.dropped = nil
+	t.mutex.Unlock()
+	for _, it := range dropped {
+		for _, kind := range kinds {
+			if note, err := hourstable.EndedNote(t.config.Job, t.config.Task, it.life, kind); err == nil {
+				t.spawnFreeWith(note, it.key)
+			}
+		}
+	}
 }
 
 // dropLife ends a life whose slicelet may lack what was answered, or hold a lease that
@@ -145,10 +245,13 @@ func (t *Task) dropLife() error {
 	}
 	defer t.notice()
 	defer t.forget(held)
-	for _, kind := range kinds {
+	for _, kind := range held.toGiveUp() {
 		if note, err := held.release(kind); err == nil {
 			t.spawnFree(note, held.life)
 		}
+	}
+	if _, isHeld := held.lease(hourstable.Bridge); isHeld {
+		t.drop(held)
 	}
 	return nil
 }

@@ -165,13 +165,20 @@ func (o *ownLives) write() error {
 	return os.Rename(o.path+".new", o.path)
 }
 
-// asking returns the body by which a life asks for a lease.
-func (o *ownLives) asking(task uint64, life uint32) ([]byte, error) {
+// asking returns the body by which a life asks for a lease that heard so much, or only to
+// be let in.
+func (o *ownLives) asking(task uint64, life uint32, isLetIn bool, most heard) ([]byte, error) {
 	o.mutex.Lock()
 	defer o.mutex.Unlock()
 	made := map[string]any{"task": task, "life": life}
+	if isLetIn {
+		made["let_in"] = true
+	}
 	if key := o.keys[life]; key != "" {
 		made["key"], made["place"], made["shown"] = key, o.place, o.newest(life)
+		if most.Number > 0 {
+			made["heard"] = most
+		}
 	}
 	return json.Marshal(made)
 }

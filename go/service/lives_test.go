@@ -24,10 +24,37 @@ type keyed struct {
 	deny  func(life uint32) map[string]any
 }
 
-func newKeyed(t *testing.T) *keyed {
-	made := &keyed{testPlane: newJob(t, 2000).plane()}
+func newKeyed(t *testing.T) *keyed { return keyedFor(t, 2000) }
+
+func keyedFor(t *testing.T, guard uint64) *keyed {
+	made := &keyed{testPlane: newJob(t, guard).plane()}
 	made.fail(made.answer)
 	return made
+}
+
+// letIns returns how often a life asked to be let in, of those that asked most often.
+func (k *keyed) letIns() (most int) {
+	k.mutex.Lock()
+	defer k.mutex.Unlock()
+	times := map[any]int{}
+	for _, asked := range k.asked {
+		if asked["let_in"] == true {
+			times[asked["life"]]++
+		}
+	}
+	for _, it := range times {
+		if it > most {
+			most = it
+		}
+	}
+	return most
+}
+
+// noted returns whether a note came with a key.
+func (k *keyed) noted(key string) bool {
+	k.mutex.Lock()
+	defer k.mutex.Unlock()
+	return isIn(k.keys, key)
 }
 
 func (k *keyed) answer(out http.ResponseWriter, in *http.Request) bool {
@@ -70,6 +97,12 @@ func (k *keyed) last() map[string]any {
 		return nil
 	}
 	return k.asked[len(k.asked)-1]
+}
+
+func (k *keyed) first() map[string]any {
+	k.mutex.Lock()
+	defer k.mutex.Unlock()
+	return k.asked[0]
 }
 
 func serves(task *Task) bool {
@@ -137,14 +170,14 @@ func TestKeysAreShown(t *testing.T) {
 func TestAProcessThatWaitsLogsNothing(t *testing.T) {
 	plane, logs := newKeyed(t), t.TempDir()
 	plane.set(func(uint32) map[string]any { return map[string]any{"refused": "waiting", "admitted": 0, "after": 0.05} })
-	task := runs(t, TaskConfig{Control: []string{plane.URL}, Logs: logs, State: t.TempDir()})
+	task := runs(t, TaskConfig{Control: []string{plane.URL}, Logs: logs, State: t.TempDir(), Report: 20 * time.Millisecond})
 	eventually(t, "the task waits", func() bool { state, _ := task.State(); return state == Waiting })
 	if task.serves("key") || task.Ready() {
 		t.Fatal("it serves while it waits")
 	}
 	time.Sleep(200 * time.Millisecond)
-	if found := linesOf(t, logs); len(found) > 0 {
-		t.Fatalf("it logs %v", found)
+	if found := linesOf(t, logs); len(found) > 0 || len(plane.times("loads")) > 0 {
+		t.Fatalf("it logs %v, and reported %d times", found, len(plane.times("loads")))
 	}
 	plane.set(nil)
 	eventually(t, "the task serves", func() bool { return serves(task.Task) && task.Ready() })
@@ -182,4 +215,145 @@ func TestAProcessGoesOnWithItsOwnNextLife(t *testing.T) {
 		asked := plane.last()
 		return asked["life"] == 2.0 && serves(task.Task)
 	})
+}
+
+// A plane notices by what a life heard that its store went back.
+func TestALifeTellsWhatItHeard(t *testing.T) {
+	plane := newKeyed(t)
+	task := runs(t, TaskConfig{Control: []string{plane.URL}})
+	eventually(t, "the task serves", func() bool { return serves(task.Task) })
+	if told := plane.first()["heard"]; told != nil {
+		t.Fatalf("a life that heard nothing says %v", told)
+	}
+	eventually(t, "a renewal", func() bool { return plane.last()["heard"] != nil })
+	told := plane.last()["heard"].(map[string]any)
+	if told["number"].(float64) < 1 || told["generation"].(float64) != 1 {
+		t.Fatalf("it says that it heard %v", told)
+	}
+}
+
+// After a store went back no life that was given out before counts: the process begins
+// another one, and does not end.
+func TestALifeOfBeforeTheStoreWentBack(t *testing.T) {
+	plane := newKeyed(t)
+	task := runs(t, TaskConfig{Control: []string{plane.URL}})
+	eventually(t, "the task serves", func() bool { return serves(task.Task) })
+	plane.set(func(life uint32) map[string]any {
+		if life > 1 {
+			return nil
+		}
+		return map[string]any{"refused": "overtaken", "admitted": 0}
+	})
+	eventually(t, "another life", func() bool {
+		life, _ := plane.last()["life"].(float64)
+		return life > 1 && serves(task.Task)
+	})
+}
+
+// A process that was stopped between the answer that lets it in and its first step: another one may be let in since.
+func TestALifeThatWasLetInLongAgo(t *testing.T) {
+	plane, clock := newKeyed(t), &shifted{}
+	var once sync.Once
+	plane.set(func(uint32) map[string]any {
+		once.Do(func() { clock.passed.Store(1500) }) // of a guard term of 2,000
+		return nil
+	})
+	task := runs(t, TaskConfig{Control: []string{plane.URL}, local: clock.read})
+	eventually(t, "the task serves", func() bool { return serves(task.Task) })
+	if times := plane.letIns(); times < 2 || task.Counts().Lives != 1 {
+		t.Errorf("it asked %d times to be let in, and began %d lives", times, task.Counts().Lives)
+	}
+}
+
+// No life begins by an answer that no plane gives.
+func TestWrongAnswersToALife(t *testing.T) {
+	for _, it := range []struct {
+		name, path string
+		reading    string
+		body       map[string]any
+	}{
+		{"a life that is not above the last", "/life", "", map[string]any{"life": 3, "last": 3}},
+		{"another life is let in", "/grant", "12", map[string]any{"let_in": 9, "epoch": 7}},
+		{"it is let in with no epoch", "/grant", "12", map[string]any{"let_in": 1}},
+		{"it is let in at no reading", "/grant", "", map[string]any{"let_in": 1, "epoch": 7}},
+	} {
+		plane := newJob(t, 2000).plane()
+		plane.fail(func(out http.ResponseWriter, in *http.Request) bool {
+			if !strings.HasSuffix(in.URL.Path, it.path) {
+				return false
+			}
+			if it.reading != "" {
+				out.Header().Set(readingHeader, it.reading)
+			}
+			answerWith(out, 200, it.body)
+			return true
+		})
+		task := runs(t, TaskConfig{Control: []string{plane.URL}})
+		eventually(t, "an answer counts", func() bool {
+			return task.Counts().Planes["unreadable"] > 0 || task.Counts().Lives > 0
+		})
+		if counts := task.Counts(); counts.Lives > 0 {
+			t.Errorf("%s: %+v", it.name, counts)
+		}
+		plane.fail(nil)
+		eventually(t, "the task serves", func() bool { return task.serves("hello") })
+		task.cancel()
+		<-task.ended
+	}
+}
+
+func TestALifeThatIsEvicted(t *testing.T) {
+	plane := newKeyed(t)
+	task := runs(t, TaskConfig{Control: []string{plane.URL}})
+	eventually(t, "the task serves", func() bool { return serves(task.Task) })
+	plane.set(func(uint32) map[string]any { return map[string]any{"refused": "evicted"} })
+	select {
+	case err := <-task.ended:
+		if !errors.Is(err, ErrOvertaken) {
+			t.Fatal(err)
+		}
+	case <-time.After(20 * time.Second):
+		t.Fatal("it does not end")
+	}
+}
+
+// A plane that asks for no wait is not asked without one.
+func TestAProcessThatWaitsForNoTime(t *testing.T) {
+	plane := newKeyed(t)
+	plane.set(func(uint32) map[string]any { return map[string]any{"refused": "waiting", "admitted": 0, "after": 0} })
+	runs(t, TaskConfig{Control: []string{plane.URL}})
+	eventually(t, "the task asks six times", func() bool { return len(plane.times("grant")) >= 6 })
+	times := plane.times("grant")
+	if took := times[5].Sub(times[0]); took < 4*leastWait { // the first phase wakes it once
+		t.Errorf("it asked six times in %v", took)
+	}
+}
+
+// While a task may serve, no other process has its lock.
+func TestTheLockIsGivenBackLast(t *testing.T) {
+	config := TaskConfig{Control: []string{"http://127.0.0.1:1"}, Job: "shop", Task: 1, State: t.TempDir()}
+	task := lone(t, config, 1<<32)
+	task.mutex.Lock() // so that what it serves by does not end
+	ended := make(chan struct{})
+	go func() {
+		defer close(ended)
+		task.end()
+	}()
+	time.Sleep(100 * time.Millisecond)
+	_, err := NewTask(config)
+	task.mutex.Unlock()
+	<-ended
+	if err == nil || !strings.Contains(err.Error(), "task-1.lock: another process") {
+		t.Errorf("another process has the lock: %v", err)
+	}
+}
+
+func TestTheNewestKeysAreKept(t *testing.T) {
+	own := &ownLives{keys: map[uint32]string{}}
+	for life := uint32(1); life <= 7; life++ {
+		own.keys[life] = fmt.Sprint("key-", life)
+	}
+	if found := fmt.Sprint(own.newest(7)); found != "map[3:key-3 4:key-4 5:key-5 6:key-6]" {
+		t.Errorf("beside life 7 these are kept: %v", found)
+	}
 }

@@ -12,6 +12,7 @@ import (
 	"syscall"
 	"testing"
 	"time"
+	"unsafe"
 )
 
 // linesOf returns the calls in the log of task 1, in their order.
@@ -189,6 +190,129 @@ func TestALogThatIsOpenedOnAFullDisk(t *testing.T) {
 	}
 }
 
+// sealed returns the path of a file with a text that takes no more, as one on a full disk.
+func sealed(t *testing.T, text string) string {
+	t.Helper()
+	const memfdCreate, allowSealing, addSeals, sealGrow = 319, 2, 1033, 4 // of Linux on x86-64
+	name := []byte("log\x00")
+	number, _, failed := syscall.Syscall(memfdCreate, uintptr(unsafe.Pointer(&name[0])), allowSealing, 0)
+	if failed != 0 {
+		t.Skipf("skipped, as the system has no file that can be sealed: %v", failed)
+	}
+	file := os.NewFile(number, "log")
+	t.Cleanup(func() { file.Close() })
+	if _, err := file.WriteString(text); err != nil {
+		t.Fatal(err)
+	}
+	if _, _, failed := syscall.Syscall(syscall.SYS_FCNTL, number, addSeals, sealGrow); failed != 0 {
+		t.Fatal(failed)
+	}
+	return fmt.Sprintf("/proc/self/fd/%d", number)
+}
+
+// The file of a log on a full disk can be opened and read.
+func TestALogOnADiskThatIsStillFull(t *testing.T) {
+	folder := t.TempDir()
+	log, err := openLog(folder, "task-1", []byte(`{"job":{}}`), func(error) {})
+	if err != nil {
+		t.Fatal(err)
+	}
+	defer log.close()
+	part := log.open()
+	path := filepath.Join(folder, "task-1."+utcDay()+".jsonl")
+	if err := os.Remove(path); err != nil {
+		t.Fatal(err)
+	}
+	if err := os.Symlink(sealed(t, "{\"job\":{}}\n"), path); err != nil {
+		t.Fatal(err)
+	}
+	log.failures = backoff{}
+	log.mutex.Lock()
+	log.stop(errors.New("the disk is full"))
+	log.mutex.Unlock()
+	if log.goesOn(part) || log.open() != 0 {
+		t.Error("it goes on, and there is no room")
+	}
+	if err := os.Remove(path); err != nil {
+		t.Fatal(err)
+	}
+	if !log.goesOn(part) || log.open() == 0 {
+		t.Error("there is room, and it does not go on")
+	}
+}
+
+// A line of a life with a gap does not join those that wait for others to be written.
+func TestALineOfAnotherLife(t *testing.T) {
+	log, err := openLog(t.TempDir(), "task-1", []byte(`{"job":{}}`), func(error) {})
+	if err != nil {
+		t.Fatal(err)
+	}
+	defer log.close()
+	part := log.open()
+	log.mutex.Lock()
+	log.part++
+	log.isWriting = true // another goroutine writes
+	log.mutex.Unlock()
+	lost := make(chan struct{})
+	go func() {
+		defer close(lost)
+		log.append(part, []byte(`{"ticket":70}`))
+	}()
+	select {
+	case <-lost:
+		if log.lacks() != 1 {
+			t.Errorf("%d lines are lost", log.lacks())
+		}
+	case <-time.After(10 * time.Second):
+		t.Error("it waits to be written")
+	}
+}
+
+// A log that has stopped is opened again after a wait, and not for each line.
+func TestALogThatIsStoppedWaits(t *testing.T) {
+	log, err := openLog(t.TempDir(), "task-1", []byte(`{"job":{}}`), func(error) {})
+	if err != nil {
+		t.Fatal(err)
+	}
+	defer log.close()
+	part := log.open()
+	log.failures = backoff{least: time.Hour, most: time.Hour}
+	log.mutex.Lock()
+	log.stop(errors.New("the disk is full"))
+	log.mutex.Unlock()
+	if log.goesOn(part) || log.open() != 0 {
+		t.Error("it is opened at once")
+	}
+	log.retryAt = time.Now()
+	if !log.goesOn(part) {
+		t.Error("it is not opened after its wait")
+	}
+}
+
+// Lines wait for others to be written, while the log stops and goes on in a new part: it tells of them as lost.
+func TestLinesThatWaitThroughAStop(t *testing.T) {
+	folder := t.TempDir()
+	log, err := openLog(folder, "task-1", []byte(`{"job":{}}`), func(error) {})
+	if err != nil {
+		t.Fatal(err)
+	}
+	defer log.close()
+	part := log.open()
+	log.mutex.Lock()
+	log.stop(errors.New("the disk is full"))
+	log.retryAt = time.Now()
+	if !log.isOpen() {
+		t.Fatal("it is not opened")
+	}
+	log.write(part, [][]byte{[]byte(`{"ticket":70}`)})
+	log.mutex.Unlock()
+	log.append(log.open(), []byte(`{"ticket":80}`))
+	wanted := `{"job":{}}` + "\n" + `{"gap":{"lines":1,"from":70,"until":70}}` + "\n" + `{"ticket":80}` + "\n"
+	if text, _ := os.ReadFile(filepath.Join(folder, "task-1."+utcDay()+".jsonl")); string(text) != wanted {
+		t.Errorf("%q", text)
+	}
+}
+
 // A start with a disk on which the log cannot be opened.
 func TestATaskWhoseLogCannotBeOpened(t *testing.T) {
 	job := newJob(t, 2000)
@@ -291,13 +415,15 @@ func TestReadersGoSideBySide(t *testing.T) {
 	task.log.file = in
 	task.log.mutex.Unlock()
 	fill(t, in)
-	place := func() uint64 {
-		task.tickets.mutex.Lock()
-		defer task.tickets.mutex.Unlock()
-		return task.tickets.last
+	waiting := func() int { // lines
+		task.log.mutex.Lock()
+		defer task.log.mutex.Unlock()
+		if task.log.next == nil {
+			return 0
+		}
+		return len(task.log.next.lines)
 	}
 	const readers = 8
-	before := place()
 	var entered sync.WaitGroup
 	entered.Add(readers)
 	for range [readers]int{} {
@@ -306,8 +432,7 @@ func TestReadersGoSideBySide(t *testing.T) {
 			task.Serving(context.Background(), "hello", func(context.Context, *Lease) error { return nil })
 		}()
 	}
-	// Each of them draws a ticket for its question and one for its handle.
-	eventually(t, "all readers ask", func() bool { return place() >= before+2*readers })
+	eventually(t, "all readers but the first have asked", func() bool { return waiting() == readers-1 })
 	task.Counts() // nor do they keep up who looks at the task
 	task.Served()
 	drained := make(chan struct{})

@@ -81,7 +81,8 @@ func TestTicketsOutlastAProcess(t *testing.T) {
 	}
 	again.close()
 	text, _ := os.ReadFile(path)
-	copy(text[bootAt:], strings.Repeat("x", 36)) // as after a crash of the machine
+	copy(text[bootAt:], strings.Repeat("x", 36)) // as after a crash of the machine,
+	copy(text[lastAt:], make([]byte, 8))         // whose disk did not have the last tickets
 	os.WriteFile(path, text, 0o644)
 	after, err := openTickets(64, path)
 	if err != nil || drawn(t, after)>>8 < 263 {
@@ -253,7 +254,10 @@ func hedged(t *testing.T, times, calls int, timeout, while time.Duration) (first
 			mutex.Lock()
 			asked[name]++
 			mutex.Unlock()
-			time.Sleep(while)
+			select {
+			case <-in.Context().Done(): // the try is over
+			case <-time.After(while):
+			}
 			out.Write([]byte("{}"))
 		})
 	}
@@ -332,5 +336,22 @@ func TestTheHolderThatAPlaneTells(t *testing.T) {
 			t.Errorf("the holder was asked %d times, and not %d", asked, expected)
 		}
 		mutex.Unlock()
+	}
+}
+
+// A plane is upgraded before its callers; one that is newer than it says is refused by name.
+func TestAnAnswerOfANewerVersion(t *testing.T) {
+	said := make(chan string, 8)
+	url := plane(t, func(out http.ResponseWriter, in *http.Request) {
+		said <- in.Header.Get(versionHeader)
+		out.Header().Set(versionHeader, "2")
+		answerWith(out, 200, map[string]any{})
+	})
+	_, err := controlOf(t, url).call(context.Background(), request{method: http.MethodGet})
+	if err == nil || !strings.Contains(err.Error(), "the answer is of version 2") {
+		t.Fatalf("an answer of a newer version is %v", err)
+	}
+	if first := <-said; first != "1" {
+		t.Fatalf("the call is of version %q", first)
 	}
 }

@@ -31,6 +31,9 @@ type job struct {
 	lives   map[string]uint32
 	tickets uint64
 	drains  []uint64      // tasks
+	grants  []uint32      // the lives that asked for leases
+	isOld   bool          // a life that asks to be let in gets a lease
+	behind  uint64        // ticks by which the readings that it says are behind the table's
 	changed chan struct{} // closed at the next phase
 }
 
@@ -55,7 +58,7 @@ func newJob(t *testing.T, guard uint64) *job {
 	}
 	t.Cleanup(func() { table.Close() })
 	made := &job{
-		t: t, table: table, begun: time.Now(), lives: map[string]uint32{}, changed: make(chan struct{}),
+		t: t, table: table, begun: time.Now().Add(-time.Minute), lives: map[string]uint32{}, changed: make(chan struct{}),
 		policy: map[string]any{
 			"redundancy": []int{1, 1}, "skew": 0, "guard": guard, "bridge": guard, "job": 1 << 31, "numbers": 1 << 20,
 		},
@@ -93,12 +96,20 @@ func (j *job) propose(slices string) {
 // commit commits what is proposed, once no lease is in its way.
 func (j *job) commit() {
 	j.t.Helper()
+	last := ""
+	j.t.Cleanup(func() {
+		if last != "" {
+			j.t.Logf("the table did not commit: %s", last)
+		}
+	})
 	eventually(j.t, "the table commits", func() bool {
 		j.mutex.Lock()
 		defer j.mutex.Unlock()
 		if _, err := j.table.Commit(j.term, j.now()); err != nil {
+			last = err.Error()
 			return false
 		}
+		last = ""
 		close(j.changed)
 		j.changed = make(chan struct{})
 		return true
@@ -183,7 +194,7 @@ func answerWith(out http.ResponseWriter, status int, value any) {
 
 // wait waits for another phase, but not long.
 func (j *job) wait(in *http.Request, isOld func() bool) {
-	for end := time.Now().Add(time.Second); time.Now().Before(end); {
+	for end := time.Now().Add(time.Second); time.Now().Before(end) && in.Context().Err() == nil; {
 		j.mutex.Lock()
 		changed, old := j.changed, isOld()
 		j.mutex.Unlock()
@@ -244,15 +255,21 @@ func (j *job) answerCall(out http.ResponseWriter, call string, body []byte) {
 	at := j.now()
 	j.tickets += 1 << 8
 	out.Header().Set(ticketHeader, fmt.Sprint(j.tickets))
-	out.Header().Set(readingHeader, fmt.Sprint(at))
+	out.Header().Set(readingHeader, fmt.Sprint(at-j.behind))
 	var made []byte
 	var err error
 	if call == "grant" {
 		var asked struct {
-			Task uint64
-			Life uint32
+			Task  uint64
+			Life  uint32
+			LetIn bool `json:"let_in"`
 		}
 		json.Unmarshal(body, &asked)
+		if asked.LetIn && !j.isOld {
+			answerWith(out, 200, map[string]any{"let_in": asked.Life, "epoch": 7})
+			return
+		}
+		j.grants = append(j.grants, asked.Life)
 		made, err = j.table.Grant(asked.Task, asked.Life, at)
 	} else {
 		made = []byte("{}")

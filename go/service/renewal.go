@@ -75,6 +75,9 @@ func (t *Task) step(ctx context.Context) (time.Duration, error) {
 	t.isBehind = false
 	phase := t.phase
 	t.mutex.Unlock()
+	if t.isSpent(held, left, phase) {
+		return t.replace(ctx, held)
+	}
 	if phase == nil {
 		return t.rest(ctx, held, at, hourstable.Guard)
 	}
@@ -116,7 +119,7 @@ func (t *Task) ask(ctx context.Context, held *leases) (time.Duration, error) {
 
 // askWith asks the table for a grant of a life.
 func (t *Task) askWith(ctx context.Context, life uint32, late func(answer)) (answer, error) {
-	body, err := t.lives.asking(t.config.Task, life)
+	body, err := t.lives.asking(t.config.Task, life, false, t.life().most())
 	if err != nil {
 		return answer{}, err
 	}
@@ -167,6 +170,9 @@ func (t *Task) hear(held *leases, made answer) (time.Duration, error) {
 	}
 	if made.status == http.StatusConflict {
 		return t.refused(held.life, made.body)
+	}
+	if made.letIn().LetIn != 0 {
+		return 0, nil
 	}
 	grant, err := grantOf(t.config.Job, made.body)
 	if err != nil {
@@ -258,7 +264,7 @@ func (t *Task) heard(held *leases, grant hourstable.Grant) error {
 		half = float64(grant.Ends-at) / 2
 	}
 	t.mutex.Lock()
-	t.hasServed = true
+	t.hasServed, t.renewed = true, time.Now()
 	t.renewAt = at + uint64(half*(1+jitter*(2*random()-1)))
 	t.counts.Heard[grant.Kind.String()]++
 	t.mutex.Unlock()

@@ -160,12 +160,12 @@ func (t *Task) waitAfter(ctx context.Context, err error, failures *backoff) erro
 }
 
 // waitOf counts a call that no plane did, and returns how long to wait before the next:
-// while a lease is held at most a fifth of the guard term.
+// while a lease is held at most a twentieth of the guard term.
 func (t *Task) waitOf(trouble *unreached, failures *backoff) time.Duration {
 	t.countUnreachable()
 	limit := time.Duration(0)
 	if held := t.life(); held != nil && held.hasLease() {
-		limit = t.guardFifth()
+		limit = t.guardFifth() / 4
 	}
 	return trouble.wait(failures, limit)
 }

@@ -30,6 +30,12 @@ var (
 	// ErrLeaseLost says that a task lost the key before its answer was done, so that
 	// there is no answer.
 	ErrLeaseLost = errors.New("hourstable: lease lost")
+	// ErrManyOwners says that the job gives no fencing tokens: a slice of it may have more
+	// than one owner.
+	ErrManyOwners = errors.New("hourstable: many-owners")
+	// ErrNoEpoch says that the job gives no fencing tokens: the control plane that let the
+	// task in is of a version up to 1.0.
+	ErrNoEpoch = errors.New("hourstable: no-epoch")
 	// ErrClockBroken says that a clock breaks the drift that it was given. The task
 	// gave up its leases, and has ended.
 	ErrClockBroken = errors.New("hourstable: a clock breaks its drift")

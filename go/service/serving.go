@@ -16,6 +16,7 @@ type Lease struct {
 	Generation uint64
 
 	sliceKey uint64
+	covering uint64 // the greatest generation of the leases that cover the key
 	isLogged bool
 	handle   hourstable.Handle
 	leases   *leases
@@ -37,11 +38,26 @@ func (l *Lease) Check() error {
 	return err
 }
 
+// Token returns the fencing token that the task had when the answer was begun, which it
+// sends to a store with each write of the key: the store keeps the greatest one, and
+// refuses a write with a lower one. ErrManyOwners if a slice of the job may have more than
+// one owner, ErrNoEpoch if the control plane that let the task in is of a version
+// up to 1.0.
+func (l *Lease) Token() (hourstable.Token, error) {
+	switch {
+	case l.task.policy.High > 1:
+		return hourstable.Token{}, ErrManyOwners
+	case l.leases.epoch == 0:
+		return hourstable.Token{}, ErrNoEpoch
+	}
+	return hourstable.TokenOf(l.leases.epoch, l.covering, l.leases.life), nil
+}
+
 // Serving runs answer if the task may serve a key, and returns its error. If the
 // task did not hold the key until answer returned nil, it returns ErrLeaseLost: then
 // there is no answer. If the key is denied, the error is a *Denied.
 func (t *Task) Serving(ctx context.Context, key string, answer func(context.Context, *Lease) error) error {
-	lease, err := t.enter(key)
+	lease, err := t.enter(ctx, key)
 	if err != nil {
 		return err
 	}
@@ -60,12 +76,12 @@ func (t *Task) Serving(ctx context.Context, key string, answer func(context.Cont
 
 // enter asks for a key. The lease is among the open ones from before the question on,
 // so that who gives up the key either denies it or waits for its end.
-func (t *Task) enter(key string) (*Lease, error) {
+func (t *Task) enter(ctx context.Context, key string) (*Lease, error) {
 	lease := &Lease{
 		Key: key, sliceKey: hourstable.SliceKey([]byte(key)), task: t,
 		isLogged: t.config.Sample >= 1 || random() < t.config.Sample,
 	}
-	if err := t.admit(lease); err != nil {
+	if err := t.admitted(ctx, lease); err != nil {
 		return nil, err
 	}
 	err := lease.leases.enter(lease)
@@ -89,31 +105,50 @@ func (t *Task) enter(key string) (*Lease, error) {
 
 // admission is what decides whether a question is asked at all.
 type admission struct {
-	leases *leases
-	moving []hourstable.Range
+	leases   *leases
+	moving   []hourstable.Range
+	replaced chan struct{}
 }
 
 // publish lets questions see the leases and the moving keys; the mutex is held.
-func (t *Task) publish() { t.admits.Store(&admission{t.leases, t.moving}) }
+func (t *Task) publish() { t.admits.Store(&admission{t.leases, t.moving, t.replaced}) }
+
+// admitted admits a question, once a slicelet that is replaced just now is replaced.
+func (t *Task) admitted(ctx context.Context, lease *Lease) error {
+	for {
+		replaced, err := t.admit(lease)
+		if replaced == nil {
+			return err
+		}
+		select {
+		case <-replaced:
+		case <-ctx.Done():
+			return ctx.Err()
+		}
+	}
+}
 
 // admit counts a question, and puts its lease among the open ones unless its key is
 // given up: who gives up a key publishes it before it looks at the desks.
-func (t *Task) admit(lease *Lease) error {
+func (t *Task) admit(lease *Lease) (replaced chan struct{}, err error) {
 	desk := t.desks.take()
 	defer t.desks.free.Put(desk)
 	desk.mutex.Lock()
 	defer desk.mutex.Unlock()
-	desk.requests++
 	admits := t.admits.Load()
+	if admits.replaced != nil {
+		return admits.replaced, nil
+	}
+	desk.requests++
 	if holds(admits.moving, lease.sliceKey) {
-		return t.denied(lease.Key, "moving", ErrMoving)
+		return nil, t.denied(lease.Key, "moving", ErrMoving)
 	}
 	if admits.leases == nil {
-		return t.denied(lease.Key, "down", hourstable.ErrDown)
+		return nil, t.denied(lease.Key, "down", hourstable.ErrDown)
 	}
 	lease.leases, lease.desk = admits.leases, desk
 	desk.open[lease] = struct{}{}
-	return nil
+	return nil, nil
 }
 
 // denied counts a denial.

@@ -16,15 +16,21 @@ import (
 func servingTask(b *testing.B, hasLog bool) *Task {
 	b.Helper()
 	config := TaskConfig{Control: []string{"http://127.0.0.1:1"}, Job: "shop", Task: 1}
-	folder := b.TempDir()
 	if hasLog {
-		config.Logs = folder
+		config.Logs = b.TempDir()
 	}
+	return lone(b, config, 1<<32)
+}
+
+// lone returns a task that may serve every key until a reading, and follows no table.
+func lone(b testing.TB, config TaskConfig, ends uint64) *Task {
+	b.Helper()
 	task, err := NewTask(config)
 	must(b, err)
 	b.Cleanup(task.end)
-	if hasLog {
-		task.log, err = openLog(filepath.Join(folder, "shop"), "task-1", []byte(`{"job":{}}`), func(why error) { b.Error(why) })
+	if config.Logs != "" {
+		told := func(why error) { b.Error(why) }
+		task.log, err = openLog(filepath.Join(config.Logs, "shop"), "task-1", []byte(`{"job":{}}`), told)
 		must(b, err)
 	}
 	clock, err := hourstable.NewTaskClock(task.config.Drift, 1<<40)
@@ -38,20 +44,26 @@ func servingTask(b *testing.B, hasLog bool) *Task {
 	reading := uint64(5)
 	must(b, held.sample(answer{sent: sent, reading: &reading}))
 	must(b, held.start())
-	message := []byte(fmt.Sprintf(`{"job":"shop","type":"grant","value":{"ends":"%d","generation":"1","kind":"guard",`+
-		`"life":1,"number":"1","ranges":[["0","%d"]],"task":1,"until":"%d"},"version":2}`, 1<<32, keys, 1<<32))
-	grant, err := grantOf("shop", message)
-	must(b, err)
-	policy := hourstable.Policy{Low: 1, High: 1, Guard: 1 << 32, Bridge: 1 << 32, Job: 1 << 32, Numbers: 9}
-	if isHeard, err := held.hear(message, grant, policy); err != nil || !isHeard {
-		b.Fatal(isHeard, err)
-	}
+	hearGuard(b, held, 1, ends)
 	task.leases = held
 	task.publish()
 	return task
 }
 
-func must(b *testing.B, err error) {
+// hearGuard lets a life hear a guard lease of every key, by the number of its grant and until a reading.
+func hearGuard(b testing.TB, held *leases, number, ends uint64) {
+	b.Helper()
+	message := []byte(fmt.Sprintf(`{"job":"shop","type":"grant","value":{"ends":"%d","generation":"1","kind":"guard",`+
+		`"life":1,"number":"%d","ranges":[["0","%d"]],"task":1,"until":"%d"},"version":2}`, ends, number, keys, ends))
+	grant, err := grantOf("shop", message)
+	must(b, err)
+	policy := hourstable.Policy{Low: 1, High: 1, Guard: 1 << 32, Bridge: 1 << 32, Job: 1 << 32, Numbers: 1 << 20}
+	if isHeard, err := held.hear(message, grant, policy); err != nil || !isHeard {
+		b.Fatal(isHeard, err)
+	}
+}
+
+func must(b testing.TB, err error) {
 	b.Helper()
 	if err != nil {
 		b.Fatal(err)

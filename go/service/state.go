@@ -26,7 +26,7 @@ func (t *Task) State() (state State, since time.Time) {
 	switch {
 	case t.isStopped:
 		return Stopped, time.Time{}
-	case t.isDraining || t.isDrained:
+	case t.leaves():
 		return Draining, time.Time{}
 	case t.isWaiting:
 		return Waiting, time.Time{}
@@ -46,8 +46,11 @@ func (t *Task) State() (state State, since time.Time) {
 func (t *Task) Ready() bool {
 	t.mutex.Lock()
 	defer t.mutex.Unlock()
-	return t.hasServed && !t.isDraining && !t.isDrained && !t.isWaiting
+	return t.hasServed && !t.leaves() && !t.isWaiting
 }
+
+// leaves says whether the task ends, or is drained; the mutex is held.
+func (t *Task) leaves() bool { return t.isDraining || t.isDrained || t.drainsItself }
 
 func (t *Task) drain() {
 	t.mutex.Lock()

@@ -57,7 +57,7 @@ func TestStates(t *testing.T) {
 
 // While keys move the task is ready, and from the end of its context on it is not.
 func TestStatesWhileKeysMove(t *testing.T) {
-	job := newJob(t, 60_000)
+	job := newJob(t, 600_000)
 	release := make(chan struct{})
 	task := runs(t, TaskConfig{
 		Control: []string{job.plane().URL}, Patience: time.Minute,
@@ -83,7 +83,7 @@ func TestStatesWhileKeysMove(t *testing.T) {
 
 // An operator drains the task: it has no keys, and is not ready, until it has some again.
 func TestStatesOfATaskThatIsDrained(t *testing.T) {
-	job := newJob(t, 60_000)
+	job := newJob(t, 3000) // a bridge lease may stay until it ends, if the next assignment comes before its guard lease
 	task := runs(t, TaskConfig{Control: []string{job.plane().URL}, Report: 20 * time.Millisecond})
 	task.is(t, Serving, true)
 	job.drain(1, 7)

@@ -23,8 +23,11 @@ func (k *kept) Info(message string, _ ...any) { k.keep(message) }
 func (k *kept) Warn(message string, _ ...any) { k.keep(message) }
 func (k *kept) Error(message string, attributes ...any) {
 	for _, it := range attributes {
-		if text, isText := it.(string); isText {
-			message += " " + text
+		switch it := it.(type) {
+		case string:
+			message += " " + it
+		case error:
+			message += " " + it.Error()
 		}
 	}
 	k.keep(message)
@@ -79,7 +82,7 @@ func TestCallbacksThatPanic(t *testing.T) {
 
 // OnLose and the answers have the patience of a task each: one that overruns does not take that of the other.
 func TestPatienceOfCallbacksAndOfAnswers(t *testing.T) {
-	job := newJob(t, 60_000)
+	job := newJob(t, 600_000) // a lease does not end by itself within the test
 	release := make(chan struct{})
 	defer close(release)
 	told := make(chan struct{})
@@ -150,8 +153,9 @@ func TestLoopsBeginAgain(t *testing.T) {
 		t.Run(it.name, func(t *testing.T) {
 			t.Parallel()
 			job := newJob(t, 2000)
+			logger := &kept{}
 			config := TaskConfig{
-				Control: []string{job.plane().URL}, Logs: t.TempDir(), Report: 20 * time.Millisecond, Logger: &kept{},
+				Control: []string{job.plane().URL}, Logs: t.TempDir(), Report: 20 * time.Millisecond, Logger: logger,
 			}
 			isBroken := &atomic.Bool{}
 			it.fails(&config, isBroken)
@@ -164,6 +168,9 @@ func TestLoopsBeginAgain(t *testing.T) {
 			eventually(t, "the task serves again", func() bool { return task.serves("hello") })
 			if lives := task.Counts().Lives; (lives > 1) != (it.where == "leases") {
 				t.Errorf("it began %d lives", lives)
+			}
+			if strings.Contains(it.name, "panics") != logger.has("panic: the transport is broken") {
+				t.Error("it is not logged, or something else is, why it failed")
 			}
 		})
 	}
@@ -234,5 +241,22 @@ func TestALoggerThatPanics(t *testing.T) {
 	task.renews(t)
 	if counts := task.Counts(); counts.Lives != 1 || len(counts.Internal) != 0 {
 		t.Errorf("%+v", counts)
+	}
+}
+
+// The waits of a loop that fails are from half of 200 ms up.
+func TestALoopThatFailsPauses(t *testing.T) {
+	ctx, cancel := context.WithCancel(context.Background())
+	defer cancel()
+	runs, begun := 0, time.Now()
+	failures := &backoff{least: 200 * time.Millisecond, most: 200 * time.Millisecond}
+	err := newSupervisor(&kept{}).loop(ctx, "test", failures, func(context.Context) error {
+		if runs++; runs == 4 {
+			return nil
+		}
+		return errors.New("it fails")
+	}, nil)
+	if took := time.Since(begun); err != nil || took < 300*time.Millisecond {
+		t.Errorf("%d runs took %v: %v", runs, took, err)
 	}
 }

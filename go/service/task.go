@@ -38,7 +38,7 @@ type TaskConfig struct {
 	Client *http.Client // http.DefaultClient if nil
 	Logger Logger
 	Drift  hourstable.Drift // 1,001 in 1,000,000 with a grain of 2 if zero
-	Oldest uint64           // ticks without an answer of the table; nine tenths of a guard lease if 0
+	Oldest uint64           // ticks without an answer of the table; a guard term if 0, in which leases end
 
 	// OnGain is told of slice keys that the task may serve from now on, and OnLose of
 	// those that it gives up, before it does: it has Patience for it, and then as long
@@ -71,19 +71,24 @@ type Task struct {
 	leases     *leases  // nil between two lives
 	coming     *ownLife // a life that was drawn, and is not let in; for the loop of leases alone
 	late       []lateAnswer
+	dropped    []droppedLife // whose bridge leases are freed once the next life has begun
 	phase      *hourstable.Phase
 	renewAt    uint64
 	served     []hourstable.Range
 	moving     []hourstable.Range
 	isBehind   bool
-	hasServed  bool // it had a lease
-	isDraining bool // the context of Run has ended
-	isDrained  bool // an operator drains it, and it has no keys
+	hasServed  bool          // it had a lease
+	isDraining bool          // the context of Run has ended
+	isDrained  bool          // an operator drains it, and it has no keys
+	renewed    time.Time     // when it heard a lease last
+	replaced   chan struct{} // while a slicelet is replaced: what is closed then
 	isStopped  bool
-	isWaiting  bool      // another process of the task may have leases
-	cutOff     time.Time // since when no control plane gives leases; zero if one does
-	left       chan struct{}
-	counts     Counts // but for Requests, which desks count
+
+	drainsItself bool      // its life was drained by Drain
+	isWaiting    bool      // another process of the task may have leases
+	cutOff       time.Time // since when no control plane gives leases; zero if one does
+	left         chan struct{}
+	counts       Counts // but for Requests, which desks count
 
 	desks  desks
 	admits atomic.Pointer[admission] // of leases and moving, which publish sets
@@ -208,7 +213,7 @@ func (t *Task) Run(ctx context.Context) error {
 	patience := 2 * time.Duration(len(kinds)) * t.config.Patience
 	last, stop := context.WithTimeout(t.lasting, patience+t.control.timeout)
 	defer stop()
-	err := t.supervisor.guarded(func() error { return t.endLife(last) })
+	err := t.supervisor.guarded(func() error { return t.endAll(last) })
 	if err != nil {
 		t.config.Logger.Warn("a task ends with leases that were not freed", "error", err)
 	}

@@ -26,6 +26,16 @@ func TestTicketsThatAreNotObserved(t *testing.T) {
 	}
 }
 
+// An answer that comes late has a ticket below those drawn since.
+func TestTicketsThatWereSeenBefore(t *testing.T) {
+	from, _ := openTickets(64, "")
+	from.observe("66816") // 261 * 256
+	from.observe("256")
+	if place := drawn(t, from) >> 8; place != 262 {
+		t.Errorf("%d is drawn after 261", place)
+	}
+}
+
 // The real time of a plane, or of this host, may be days off.
 func TestTicketsOfAPlaneThatIsAhead(t *testing.T) {
 	from, _ := openTickets(64, "")

@@ -33,11 +33,16 @@ var wrongAnswers = map[string]func(http.ResponseWriter){
 	},
 	"a reading that is no number": func(out http.ResponseWriter) {
 		out.Header().Set(readingHeader, "soon")
-		out.Write([]byte(`{"refused":"no-assignment"}`))
+		answerWith(out, 409, map[string]any{"refused": "no-assignment"})
 	},
 	"a reading beyond those of a table": func(out http.ResponseWriter) {
 		out.Header().Set(readingHeader, "4611686018427387904")
-		out.Write([]byte(`{"refused":"no-assignment"}`))
+		answerWith(out, 409, map[string]any{"refused": "no-assignment"})
+	},
+	"a grant of another life": func(out http.ResponseWriter) {
+		out.Header().Set(readingHeader, "12")
+		fmt.Fprintf(out, `{"job":"shop","type":"grant","value":{"ends":"9000","generation":"1","kind":"guard","life":9,`+
+			`"number":"1","ranges":[["0","%d"]],"task":1,"until":"9000"},"version":2}`, keys)
 	},
 }
 
@@ -129,7 +134,7 @@ func TestATableWhoseClockStoodStill(t *testing.T) {
 
 // At the start too: a task does not end while its plane has another secret.
 func TestAWrongAnswerAtTheStart(t *testing.T) {
-	for _, name := range []string{"401", "no JSON", "an empty object"} {
+	for _, name := range []string{"400", "401", "no JSON", "an empty object"} {
 		job := newJob(t, 1000)
 		plane := job.plane()
 		plane.fail(always(wrongAnswers[name]))
@@ -361,6 +366,10 @@ func TestAWrongAnswerEndsNoRouter(t *testing.T) {
 			plane.fail(always(wrong))
 			router := routes(t, plane.URL)
 			eventually(t, "the router asks twice", func() bool { return len(plane.times("assignment")) >= 2 })
+			eventually(t, "it counts", func() bool { return len(router.Troubles().Planes) > 0 })
+			if failed := router.Troubles().Internal; len(failed) > 0 {
+				t.Error(failed)
+			}
 			plane.fail(nil)
 			eventually(t, "the router knows the owner", func() bool {
 				found, err := router.Owners("hello")
@@ -432,7 +441,7 @@ func TestAGrantThatComesLateIsHeard(t *testing.T) {
 	job := newJob(t, 8000) // 1.6 s for an answer, and a hedge after a third of it
 	first, second := job.plane(), job.plane()
 	task := runs(t, TaskConfig{Control: []string{first.URL, second.URL}})
-	eventually(t, "the task has a lease", func() bool { return task.Counts().Heard["guard"] == 1 })
+	eventually(t, "the task has a lease", func() bool { return task.Counts().Heard["guard"] > 0 })
 	var isLate atomic.Bool
 	isLate.Store(true)
 	first.fail(func(_ http.ResponseWriter, in *http.Request) bool {
@@ -441,10 +450,12 @@ func TestAGrantThatComesLateIsHeard(t *testing.T) {
 		}
 		return false
 	})
-	eventually(t, "the task hears the grants of both planes", func() bool { return task.Counts().Heard["guard"] == 3 })
-	if len(second.times("grant")) != 1 {
-		t.Errorf("the other plane was asked %d times", len(second.times("grant")))
-	}
+	eventually(t, "the task hears the grants of both planes", func() bool {
+		job.mutex.Lock()
+		made := uint64(len(job.grants))
+		job.mutex.Unlock()
+		return made >= 3 && len(second.times("grant")) > 0 && !isLate.Load() && task.Counts().Heard["guard"] == made
+	})
 	begun := time.Now()
 	job.propose(`[["0",[2]]]`)
 	job.commit()

@@ -136,6 +136,31 @@ NATIVE(jint, sliceletCheck)(JNIEnv *env, jclass self, jlong place, jlong task, j
     return hs_slicelet_check(PLACE(place), &handle, (uint64_t)at);
 }
 
+/* `out` takes the 16 bytes of the token. */
+NATIVE(jint, sliceletToken)(JNIEnv *env, jclass self, jlong place, jlong most, jint epoch, jbyteArray key, jlong at,
+                            jbyteArray out) {
+    (void)self;
+    struct bytes it;
+    struct hs_token token = {{0}};
+    if (!take(env, key, &it))
+        return HS_NO_MEMORY;
+    jint code = drop(
+        &it, hs_slicelet_token(PLACE(place), (uint64_t)most, (uint32_t)epoch, it.at, it.length, (uint64_t)at, &token));
+    (*env)->SetByteArrayRegion(env, out, 0, sizeof token.bytes, (const jbyte *)token.bytes);
+    return code;
+}
+
+/* `greatest` has 16 bytes, and so has `token`. */
+NATIVE(jint, fenceAccept)(JNIEnv *env, jclass self, jbyteArray greatest, jbyteArray token) {
+    (void)self;
+    struct hs_token kept, offered;
+    (*env)->GetByteArrayRegion(env, greatest, 0, sizeof kept.bytes, (jbyte *)kept.bytes);
+    (*env)->GetByteArrayRegion(env, token, 0, sizeof offered.bytes, (jbyte *)offered.bytes);
+    jint code = hs_fence_accept(&kept, &offered);
+    (*env)->SetByteArrayRegion(env, greatest, 0, sizeof kept.bytes, (const jbyte *)kept.bytes);
+    return code;
+}
+
 /* A call of a block: its clock, what it passes and writes, and its line. */
 struct block_call {
     struct hs_task_clock clock;

@@ -30,6 +30,10 @@ final class Native {
 
     static native int sliceletCheck(long place, long task, long sliceKey, long position, int life, long at);
 
+    static native int sliceletToken(long place, long most, int epoch, byte[] key, long at, byte[] out);
+
+    static native int fenceAccept(byte[] greatest, byte[] token);
+
     static native int sliceletEnter(long place, long[] clock, long now, byte[] key, long[] block, byte[] line);
 
     static native int sliceletLeave(long place, long[] clock, long now, long[] block, byte[] line);

@@ -162,6 +162,22 @@ public final class Slicelet extends Place {
     }
 
     /**
+     * The fencing token that the task has for a key. {@code most} is the most owners of a slice by the policy of the job,
+     * and {@code epoch} a number above those of the jobs before it that wrote to the same store. HS_MANY_OWNERS if
+     * {@code most} is above 1, then the codes of serve.
+     */
+    public Token token(long most, int epoch, byte[] key, long at) throws Refused {
+        byte[] out = new byte[Token.LENGTH];
+        lock.readLock().lock();
+        try {
+            Refused.check(Native.sliceletToken(address(), most, epoch, key, at, out), new long[5]);
+        } finally {
+            lock.readLock().unlock();
+        }
+        return Token.of(out);
+    }
+
+    /**
      * Enters a block of work on a key: reads the local clock and then {@code clock}, while no other call of it runs, takes a
      * handle at that reading as hold does, and writes the line of that call. {@code ticket} is its place among all calls of
      * the job, and is drawn before. The codes of {@link TaskClock#read}, with which no call is made, then those of hold, which

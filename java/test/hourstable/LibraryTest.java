@@ -107,6 +107,26 @@ public final class LibraryTest {
         }
     }
 
+    private static void tokens() throws Exception {
+        try (Slicelet task = new Slicelet("shop", 2)) {
+            task.start(1, 3);
+            task.hear(grant(7, 8), 5);
+            Token token = task.token(1, 9, HELLO, 6);
+            is("a token", token, Token.of(9, 3, 1));
+            is("its text", token.toString(), "00000009000000000000000300000001");
+            is("the token of a text", Token.parse(token.toString()), token);
+            is("a greater epoch", Integer.signum(Token.of(-1, 1, 1).compareTo(token)), 1);
+            refuses("a job of two owners", "HS_MANY_OWNERS", "many-owners", () -> task.token(2, 9, HELLO, 6));
+            refuses("a token at the end", "HS_ENDED", "ended", () -> task.token(1, 9, HELLO, 8));
+            Fence fence = new Fence();
+            is("the first write", fence.accept(token), true);
+            is("the same token", fence.accept(token), true);
+            is("a lower token", fence.accept(Token.of(9, 2, 255)), false);
+            is("the greatest token", fence.greatest(), token);
+            is("bytes above 127", fence.accept(Token.of(9, 200, 1)), true);
+        }
+    }
+
     private static final String LOWER = "4611686018427387904";
     private static final String HELLO_KEY = "\"slice_key\":1619368272448737671,\"task\":2";
 
@@ -514,6 +534,7 @@ public final class LibraryTest {
         grows();
         handles();
         covers();
+        tokens();
         blocks();
         receives();
         resumes();

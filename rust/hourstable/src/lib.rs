@@ -28,6 +28,7 @@ mod place;
 mod receipt;
 mod refused;
 mod slicelet;
+mod token;
 
 pub use block::Block;
 pub use clerk::{Clerk, Owners};
@@ -37,6 +38,7 @@ pub use loads::{LoadBook, LoadRecord};
 pub use receipt::Receipt;
 pub use refused::{Code, Refused};
 pub use slicelet::{ended_note, read_grant, Grant, Handle, Lease, Serving, Slicelet, TaskAction};
+pub use token::{Fence, Token};
 
 use hourstable_sys as sys;
 

@@ -396,3 +396,31 @@ fn threads_read_beside_each_other() {
     });
     assert_eq!(task.read().unwrap().calls_left(), Ok(65536 - 102));
 }
+
+#[test]
+fn tokens() {
+    let mut task = serving_task();
+    let token = task.token(1, 9, b"hello", 6).unwrap();
+    assert_eq!(token, Token::new(9, 3, 1));
+    assert_eq!(token.to_string(), "00000009000000000000000300000001");
+    assert_eq!(Token::parse(&token.to_string()), Some(token));
+    assert_eq!(Token::parse("+0000009000000000000000300000001"), None);
+    assert_eq!(task.token_at(1, 9, slice_key(b"hello"), 6), Ok(token));
+    refuses(task.token(2, 9, b"hello", 6), Code::MANY_OWNERS, "many-owners");
+    refuses(task.token(1, 9, b"hello", 8), Code::ENDED, "ended");
+    refuses(task.token_at(1, 9, 1 << 63, 6), Code::WRONG_FORM, "wrong-form");
+    let bridge = text(grant(8, 20)).replace("guard", "bridge").replace(r#""3""#, r#""4""#);
+    task.hear(bridge.as_bytes(), 6).unwrap();
+    assert_eq!(task.token(1, 9, b"hello", 6), Ok(Token::new(9, 4, 1)));
+    assert!(Token::new(0, 9, 9) < token && Token::new(9, 2, 9) < token);
+}
+
+#[test]
+fn a_fence_refuses_lower_tokens() {
+    let mut fence = Fence::default();
+    assert!(fence.accept(Token::new(1, 2, 200)));
+    assert!(fence.accept(Token::new(1, 2, 200)));
+    assert!(!fence.accept(Token::new(1, 2, 199)) && !fence.accept(Token::new(0, 9, 9)));
+    assert_eq!(fence.greatest, Token::new(1, 2, 200));
+    assert!(fence.accept(Token::new(1, 128, 1)) && fence.accept(Token::new(2, 1, 1)));
+}
