@@ -16,6 +16,7 @@ from .shrink import Shrinking, timeline, told
 
 SHOWN = 3  # findings of a check that are shown
 LONGEST = 1600  # characters of a finding that are shown
+PRINTED = Path("-")  # the file of digests that are printed
 
 
 def seeds_in(text: str) -> list[int]:
@@ -37,7 +38,8 @@ def parser() -> argparse.ArgumentParser:
     made.add_argument("--trace", action="store_true", help="tell what happens in a run, and what is logged")
     made.add_argument("--shrink", action="store_true", help="make a run that fails smaller, and tell it")
     made.add_argument("--twice", action="store_true", help="run each seed twice, and compare the digests")
-    made.add_argument("--digests", action="store_true", help="print the digest of each seed")
+    made.add_argument("--digests", metavar="FILE", nargs="?", const=PRINTED, type=Path,
+                      help="print the digest of each seed, or add it to a file")
     made.add_argument("--each", action="store_true", help="print a line for each seed, also for those that are ok")
     made.add_argument("--jobs", type=int, default=len(os.sched_getaffinity(0)), help="runs at once")
     made.add_argument("--no-audit", action="store_true", help="audit no logs")
@@ -123,14 +125,23 @@ def _seed(found: Found) -> int:
     return found.seed
 
 
+def keep(found: Found, path: Path) -> None:
+    """Prints the digest of a run, or adds it to a file, which has those of other runs."""
+    if path == PRINTED:
+        print(f"{found.seed} {found.digest}", flush=True)
+        return
+    with path.open("a", encoding="utf-8") as file:
+        print(found.seed, found.digest, file=file)
+
+
 def run_many(seeds: Sequence[int], given: argparse.Namespace) -> int:
     totals = Totals(len(seeds))
     digests: dict[int, str] = {}
     for found in all_of(_each(seeds, given), max(1, given.jobs)):
         totals.add(found)
-        if given.digests:
-            print(f"{found.seed} {found.digest}", flush=True)
-        elif found.failed or given.each:
+        if given.digests is not None:
+            keep(found, given.digests)
+        if found.failed and given.digests != PRINTED or given.each:
             if sys.stderr.isatty():
                 print("\r\x1b[K", end="", file=sys.stderr)
             print(line_of(found), flush=True)
@@ -160,6 +171,8 @@ def run_gate(given: argparse.Namespace) -> int:
     totals, wrong = Totals(len(known.gate())), 0
     for found in all_of((wanted_of(it, given) for it in known.gate()), max(1, given.jobs)):
         totals.add(found)
+        if given.digests is not None:
+            keep(found, given.digests)
         causes, due = known.causes_of(found), listed.get(found.seed, set())
         if causes != due:
             wrong += 1

@@ -14,12 +14,14 @@ if TYPE_CHECKING:
     from .world import Process
 
 WRITE_BACK = 30_000_000_000  # ns after which the kernel has written what nobody synced
+DEVICE = 1  # of each disk
 
 
 @dataclass
 class File:
     """What the disk knows of a file: its lengths as it grew, and its bytes as they were flushed."""
 
+    inode: int
     grown: list[tuple[int, int]] = field(default_factory=list)  # the time, and the length from then on
     flushed: bytes | None = None
     allocated: int = 0  # bytes for which there is room, also once the disk is full
@@ -35,16 +37,26 @@ class Disk:
         self.full_below: str = ""  # a part of the paths of files that cannot be written
         self.has_lost = False  # whether a power loss took something
         self._files: dict[str, File] = {}
+        self._inodes = 0  # that were given
         self._open: dict[int, tuple["Process", str]] = {}
 
     def open(self, process: "Process", path: object, flags: int, mode: int) -> int:
         name = str(path)
         if self._is_full(name) and flags & os.O_CREAT:
             raise OSError(errno.ENOSPC, "no space left on device", name)
+        is_known = name in self._files and os.path.exists(name)
         file = os.open(name, flags, mode)
         self._open[file] = process, name
-        self._files.setdefault(name, File())
+        if not is_known:
+            self._inodes += 1
+            self._files[name] = File(self._inodes)
         return file
+
+    def identity(self, file: int) -> tuple[int, int]:
+        """Returns the device and the inode of an open file, as the run gave it: that of the real one has as many
+        digits as there were files before, and so would a request that names it."""
+        _, name = self._open[file]
+        return DEVICE, self._files[name].inode
 
     def write(self, process: "Process", file: int, data: bytes) -> int:
         _, name = self._open[file]
@@ -78,6 +90,13 @@ class Disk:
 
     def _is_full(self, name: str) -> bool:
         return bool(self.full_below) and self.full_below in name
+
+    def lose_lock(self, ending: str) -> None:
+        """Takes the locks of files whose names end so from who has them, as a server of files may that gives them to
+        another host."""
+        for file, (_, name) in self._open.items():
+            if name.endswith(ending):
+                fcntl.flock(file, fcntl.LOCK_UN)
 
     def opened_by(self, process: "Process") -> int:
         """Returns how many files a process has open."""

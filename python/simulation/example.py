@@ -5,12 +5,14 @@ import asyncio
 from dataclasses import dataclass, field
 from typing import NamedTuple
 
-from hourstable.demo.shelf import NOTHING, Session, Taken
+from hourstable.demo.shelf import NOTHING, Late, Session
+from hourstable.library import Fence
 from hourstable.task import Hold, Task
 
 from .world import Process
 
 FOR_EVER = 1 << 62  # when an operation ended whose caller was told nothing
+STOPS, LONGEST = 0.03, 25.0  # the part of writes that are stopped after their check, and for how many seconds at most
 
 
 class Operation(NamedTuple):
@@ -31,20 +33,23 @@ class Operation(NamedTuple):
 
 @dataclass
 class Shelf:
-    """Where sessions stand that a write was acknowledged for. A slot is filled once."""
+    """Where sessions stand that a write was acknowledged for. It refuses writers that are late."""
 
     rows: dict[str, list[Session]] = field(default_factory=dict)
     history: dict[str, list[Operation]] = field(default_factory=dict)
+    fences: dict[str, Fence] = field(default_factory=dict)
 
-    def newest(self, key: str) -> Session:
+    def take(self, key: str, token: bytes) -> Session:
+        """Raises the fence of a key, and returns its session. Raises Late."""
+        if not self.fences.setdefault(key, Fence()).accept(token):
+            raise Late(key)
         return self.rows[key][-1] if key in self.rows else NOTHING
 
-    def fill(self, key: str, session: Session) -> None:
-        """Raises Taken if the slot of the version is filled."""
-        row = self.rows.setdefault(key, [])
-        if len(row) != session.version - 1:
-            raise Taken(f"{key} {session.version}")
-        row.append(session)
+    def put(self, key: str, token: bytes, session: Session) -> None:
+        """Raises Late."""
+        if not self.fences.setdefault(key, Fence()).accept(token):
+            raise Late(key)
+        self.rows.setdefault(key, []).append(session)
 
     def begin(self, key: str, now: int, write: str) -> int:
         """Notes a write that begins, and returns its place in the history of the key."""
@@ -74,11 +79,13 @@ class Sessions:
             if hold.continuous():
                 return hold, session
         hold = self._task.hold(key)
-        self._memory[key] = hold, self._shelf.newest(key)
+        self._memory[key] = hold, self._shelf.take(key, hold.token)
         return self._memory[key]
 
     async def write(self, key: str, write: str, length: float) -> None:
-        """Writes once, also if it is asked again. Raises Denied, LeaseLost and Taken."""
+        """Writes once, also if it is asked again. Raises Denied, LeaseLost and Late. At times it is stopped after its
+        last check, for longer than two leases."""
+        rng = self._process.rng
         async with self._turns.setdefault(key, asyncio.Lock()):
             async with self._task.serving(key) as lease:
                 hold, session = self._session(key)
@@ -86,9 +93,11 @@ class Sessions:
                 if write not in session.ids:
                     session = session.after(write, write)
                     lease.check()
+                    if rng.random() < STOPS:
+                        await asyncio.sleep(rng.uniform(0, LONGEST))
                     try:
-                        self._shelf.fill(key, session)
-                    except Taken:
+                        self._shelf.put(key, lease.token, session)
+                    except Late:
                         self._memory.pop(key, None)
                         raise
                     self._memory[key] = hold, session

@@ -19,6 +19,7 @@ MOST_KEPT = 100  # elements of the containers of a process that stand at one pla
 MORE_KEPT = 60  # of them after two guard terms in which nothing fails
 RECORDS = {  # places that keep a number of the newest, or what each task has
     "Lanes.stretches", "Lanes.terms", "Lanes.phases", "Lanes.events", "Lanes.given", "Job.notes", "Record._shown",
+    "Rights.seats", "Start.steps",
 }
 LOOKS = 10  # at the keys that nobody serves, in a guard term
 CALLS_SETTLE = 20  # looks at which a plane may be busy before it counts as one that waits

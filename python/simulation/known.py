@@ -29,10 +29,7 @@ def _cause(name: str, checks: str, shows: str, worlds: str = "") -> Cause:
     return Cause(name, frozenset(checks.split()), re.compile(shows), frozenset(worlds.split()))
 
 
-CAUSES = (
-    _cause("backup", "unsafe history exited died unserved not_renewed grown", r"", "backup"),
-    _cause("standby", "denied", r" moved, denied", "quiet handovers"),
-)
+CAUSES: tuple[Cause, ...] = ()
 
 
 def causes_of(found: Found) -> set[str]:

@@ -1,6 +1,8 @@
 """Whether the history of each key is linearizable: a search for each key over the operations that may
 come next, with the states that were seen."""
 
+from hourstable.demo.shelf import IDS, NOTHING
+
 from .example import FOR_EVER, Operation, Shelf
 
 MOST_STATES = 200_000  # of the search for a key
@@ -8,8 +10,12 @@ NAMED = 6  # operations of a history that is not linearizable that are named
 
 
 def faults(shelf: Shelf) -> list[str]:
-    """Returns what is wrong in what clients were told."""
+    """Returns what is wrong in what clients were told, and on the shelf: a write that came late and was taken."""
     found = []
+    for key, row in sorted(shelf.rows.items()):
+        for before, after in zip((NOTHING, *row), row):
+            if (after.version, after.ids[1:]) != (before.version + 1, before.ids[: IDS - 1]):
+                found.append(f"{key}: version {after.version} is not made of version {before.version}")
     for key, history in sorted(shelf.history.items()):
         made = {session.ids[0] for session in shelf.rows.get(key, [])}
         lost = [it for it in history if it.write and it.ended < FOR_EVER and it.write not in made]

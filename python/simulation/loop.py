@@ -9,7 +9,7 @@ from functools import partial
 from typing import TYPE_CHECKING, Any
 from weakref import ref
 
-from .world import SECOND, STEP, Action
+from .world import SECOND, STEP, Action, Timed
 
 if TYPE_CHECKING:
     from .world import Process
@@ -43,58 +43,53 @@ def name_of(task: "asyncio.Task[Any]") -> str:
 
 
 class Call:
-    """A callback that a loop is to call, as `asyncio.Handle` without what is needed to debug. One without a callback
-    is cancelled."""
+    """A callback that a loop is to call, as `asyncio.Handle` without what is needed to debug."""
 
-    __slots__ = ("loop", "callback", "args", "context")
+    __slots__ = ("callback", "args", "context", "is_cancelled")
 
-    def __init__(
-        self, loop: "Loop", callback: Callable[..., object], args: tuple[Any, ...], context: Context | None
-    ) -> None:
-        self.loop, self.args = loop, args
-        self.callback: Callable[..., object] | None = callback
+    def __init__(self, callback: Callable[..., object], args: tuple[Any, ...], context: Context | None) -> None:
+        self.callback, self.args, self.is_cancelled = callback, args, False
         self.context = copy_context() if context is None else context
 
     def cancel(self) -> None:
-        self.callback, self.args = None, ()
+        self.is_cancelled = True
 
     def cancelled(self) -> bool:
-        return self.callback is None
-
-    def run(self) -> None:
-        callback = self.callback
-        if callback is None:
-            return
-        try:
-            self.context.run(callback, *self.args)
-        except (SystemExit, KeyboardInterrupt):
-            raise
-        except BaseException as error:
-            name = getattr(callback, "__qualname__", type(callback).__name__)
-            self.loop.call_exception_handler({"message": f"the callback {name}", "exception": error})
+        return self.is_cancelled
 
 
-class Timer(Call):
+class Timer(Timed):
     """A callback that is due once CLOCK_MONOTONIC of its host is at so many ns."""
 
-    __slots__ = ("due",)
+    __slots__ = ("due", "loop", "callback", "args", "context")
 
     def __init__(
         self, due: int, loop: "Loop", callback: Callable[..., object], args: tuple[Any, ...], context: Context | None
     ) -> None:
-        super().__init__(loop, callback, args, context)
-        self.due = due
+        self.due, self.loop, self.callback, self.args, self.is_cancelled = due, loop, callback, args, False
+        self.context = copy_context() if context is None else context
+
+    def cancel(self) -> None:
+        self.is_cancelled = True
+
+    def cancelled(self) -> bool:
+        return self.is_cancelled
 
     def when(self) -> float:
         return self.due / SECOND
 
-    def ring(self) -> None:
-        if self.callback is None:
+    def __call__(self) -> None:
+        if self.is_cancelled:
             return
         if self.loop.process.host.monotonic() < self.due:  # the host slept
             self.loop.set_timer(self)
-        else:
-            self.run()
+            return
+        try:
+            self.context.run(self.callback, *self.args)
+        except (SystemExit, KeyboardInterrupt):
+            raise
+        except BaseException as error:
+            self.loop.note_failed(self, error)
 
 
 class Loop(asyncio.AbstractEventLoop):
@@ -123,7 +118,7 @@ class Loop(asyncio.AbstractEventLoop):
         return self.process.host.monotonic() / SECOND
 
     def call_soon(self, callback: Any, *args: Any, context: Any = None) -> Any:
-        made = Call(self, callback, args, context)
+        made = Call(callback, args, context)
         self._ready.append(made)
         if not self._is_due:
             self._is_due = True
@@ -138,7 +133,14 @@ class Loop(asyncio.AbstractEventLoop):
         while ready and not (process.stops or process.is_dead):
             for _ in range(len(ready)):
                 world.now += STEP
-                ready.popleft().run()
+                call = ready.popleft()
+                try:
+                    if not call.is_cancelled:
+                        call.context.run(call.callback, *call.args)
+                except (SystemExit, KeyboardInterrupt):
+                    raise
+                except BaseException as error:
+                    self.note_failed(call, error)
                 if process.stops or process.is_dead:
                     break
             if world.has_due():
@@ -147,10 +149,15 @@ class Loop(asyncio.AbstractEventLoop):
         if ready:
             world.at(world.now, self._call_ready, process)
 
+    def note_failed(self, call: Call | Timer, error: BaseException) -> None:
+        """Notes that a callback raised."""
+        name = getattr(call.callback, "__qualname__", type(call.callback).__name__)
+        self.call_exception_handler({"message": f"the callback {name}", "exception": error})
+
     def call_later(self, delay: float, callback: Any, *args: Any, context: Any = None) -> Any:
         host, ns = self.process.host, int(delay * SECOND)
         made = Timer(host.monotonic() + ns, self, callback, args, context)
-        self.world.at(self.world.now + host.lasts(ns), made.ring, self.process)
+        self.world.at(self.world.now + host.lasts(ns), made, self.process)
         return made
 
     def call_at(self, when: float, callback: Any, *args: Any, context: Any = None) -> Any:
@@ -159,19 +166,16 @@ class Loop(asyncio.AbstractEventLoop):
         return made
 
     def set_timer(self, timer: Timer) -> None:
-        self.world.at(self.process.host.until(timer.due), timer.ring, self.process)
-
-    def _next(self) -> int:
-        self._made += 1
-        return self._made
+        self.world.at(self.process.host.until(timer.due), timer, self.process)
 
     def create_future(self) -> "asyncio.Future[Any]":
         made = NumberedFuture(loop=self)
-        made.number = self._next()
+        self._made += 1
+        made.number = self._made
         return made
 
     def create_task(self, coro: Any, *, name: Any = None, context: Any = None) -> Any:
-        number = self._next()
+        self._made = number = self._made + 1
         made = NumberedTask.__new__(NumberedTask)
         made.number = number  # before it is put into the set of all tasks
         made.__init__(  # type: ignore[misc]

@@ -55,5 +55,8 @@ class Machine(System):
     def allocate(self, file: int, start: int, length: int) -> None:
         self._host.disk.allocate(file, start + length)
 
+    def identity(self, file: int) -> tuple[int, int]:
+        return self._host.disk.identity(file)
+
     def close(self, file: int) -> None:
         self._host.disk.close(file)

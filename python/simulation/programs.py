@@ -9,12 +9,12 @@ from hourstable.assigner import AssignerOfJobs
 from hourstable.client import Again, NoOwner, Router
 from hourstable.clock import local_clock
 from hourstable.control import Plane
-from hourstable.demo.shelf import Taken
+from hourstable.demo.shelf import Late
 from hourstable.desk import HttpDesk
 from hourstable.plans import Hysteresis
 from hourstable.ranges import Ranges
 from hourstable.service import ControlPlane, Options
-from hourstable.store import Store, open_store
+from hourstable.store import Store, store_of
 from hourstable.system import System
 from hourstable.task import Denied, LeaseLost, Task
 from hourstable.tickets import Tickets
@@ -86,13 +86,14 @@ async def run_plane(at: int, service: Service) -> None:
         "simulated:", service.host.disk.folder, host, port, process=at, shared=cluster.scene.is_shared,
         assigner=0 if cluster.scene.lone_assigners else at + 1,
         secrets=secrets_of(cluster, wrong == "401"), callers=callers_of(cluster), rules=RULES,
-        state=service.host.disk.folder / "state",
+        state=service.host.disk.folder / "state", row_form=cluster.forms[service.name],
     )
     opens = partial(open_shared, cluster)
     running = ControlPlane(options, opens=opens, transport=transport_of(service), system=Machine(process))
     stopped = asyncio.Event()
     process.on_signal = stopped.set
-    await running.start()
+    if not await running.start_unless(stopped):
+        return
     service.object = running
     assert running.plane is not None
     answer_exchanges(cluster, process, (host, port), running.plane)
@@ -110,7 +111,7 @@ def secrets_of(cluster: Cluster, is_wrong: bool) -> list[str]:
 async def open_shared(cluster: Cluster, _: str, deadline: float, system: System) -> Store:
     if not cluster.engine.is_sqlite:
         return SharedStore(cluster.engine, deadline, system)
-    return await open_store(f"sqlite:{cluster.folder}/jobs.sqlite", deadline, system)
+    return store_of(f"sqlite:{cluster.folder}/jobs.sqlite", deadline, system)
 
 
 def answer_exchanges(
@@ -179,8 +180,8 @@ class Served:
         except LeaseLost:
             self.cluster.losses.append(Loss(self.cluster.world.now, self.process.name, key))
             return "lost"
-        except Taken:
-            return "taken"
+        except Late:
+            return "late"
 
     async def work(self, key: str, length: float) -> None:
         """Works for a key, and checks twice that it still has it."""

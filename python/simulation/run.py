@@ -2,6 +2,7 @@
 
 import shutil
 import time
+from contextlib import chdir
 from dataclasses import asdict, dataclass, field
 from pathlib import Path
 from typing import Any
@@ -14,7 +15,7 @@ from .faults import Fault, Faults, plan_of
 from .healed import Health, health
 from .programs import add_all
 from .scene import Scene, scene_of
-from .services import Cluster
+from .services import JOB_TERMS, Cluster
 from .trace import Trace, take_logs
 from .world import SECOND, World
 
@@ -24,6 +25,8 @@ QUIET_BOUND = 2.0  # seconds for which a key that moves may be denied: blocks th
 FAILOVER_BOUND = 1.0  # seconds for which a key that stays may be denied when one of two planes is lost or cut off
 GRACE_BOUND = 5.0  # and one that moves, beside a lease: the plane that takes over knows no leases, so it commits a
 # change that was proposed before only once those of the earlier plane have ended
+TAKE_BOUND = 1.0  # or, if the lost plane had the job lease, beside the term of that: the other assigner takes it then
+RECOVERED = ("go_back", "slip_back", "slip_unheard", "recover")  # kinds after which logs are not one run
 CHECKS = (
     "unsafe", "history", "unserved", "not_renewed", "waiting", "grown", "died", "exited", "answered_500",
     "denied", "behind", "audit", "broken",
@@ -144,7 +147,8 @@ class Run:
         if scene.world == "quiet":
             denied += lapses(cluster)
         wild = scene.world == "wild"  # beyond the drift nothing is promised
-        back = any(it.kind == "go_back" for it in self.faults.struck)
+        overtakes = scene.seconds or scene.recovering
+        back = any(it.kind in RECOVERED for it in self.faults.struck)
         found: dict[str, list[str]] = {
             "unsafe": [] if wild else cluster.oracle.faults,
             "history": [] if wild else linear.faults(cluster.shelf),
@@ -152,7 +156,7 @@ class Run:
             "grown": well.grown, "died": [str(it) for it in self.world.died],
             "exited": [
                 str(it) for it in cluster.exits if not it.why.startswith(MAY_EXIT)
-                and not (wild and "ClockBroken" in it.why) and not (scene.seconds and "Overtaken" in it.why)
+                and not (wild and "ClockBroken" in it.why) and not (overtakes and "Overtaken" in it.why)
             ],
             "trespassed": cluster.trespassed,
             "answered_500": cluster.failed, "denied": denied, "behind": [*self.behind, *well.behind],
@@ -174,13 +178,17 @@ class Run:
     def _denied(self) -> list[str]:
         """Returns the denials that last longer than the world allows: of a key that stays, and of one that moves."""
         scene = self.scene
-        quiet, lost = (0.0, QUIET_BOUND), (FAILOVER_BOUND, scene.term + GRACE_BOUND)
-        bounds = {"quiet": quiet, "handovers": quiet, "failover": lost, "pairs": lost}.get(scene.world)
+        moves = max(scene.term + GRACE_BOUND, JOB_TERMS * scene.term + TAKE_BOUND)
+        quiet, lost = (0.0, QUIET_BOUND), (FAILOVER_BOUND, moves)
+        upgraded = quiet if scene.kinds == ("turn",) else lost
+        bounds = {
+            "quiet": quiet, "handovers": quiet, "failover": lost, "pairs": lost, "upgrades": upgraded,
+        }.get(scene.world)
         if bounds is None:
             return []
         return [
             str(it) for it in self.watch.denials
-            if it.seconds > bounds[it.moved] and it.begun > scene.begin * SECOND
+            if it.seconds > bounds[it.moved] and it.begun > (scene.begin + scene.recovering) * SECOND
         ]
 
     def _has_lost(self) -> bool:
@@ -204,11 +212,14 @@ def judged(made: Found, folder: Path, program: str) -> Found:
 
 
 def run(wanted: Wanted, folder: Path) -> Found:
-    """Runs a seed in a folder of its own, which is removed."""
+    """Runs a seed in a folder of its own, which is removed. The run names its files below that, so that nothing
+    depends on its name."""
     shutil.rmtree(folder, ignore_errors=True)
     folder.mkdir(parents=True)
     try:
-        made = judged(Run(wanted, folder).play(), folder, wanted.program)
+        with chdir(folder):
+            made = Run(wanted, Path()).play()
+        made = judged(made, folder, wanted.program)
         if wanted.keeps is not None and made.failed:
             shutil.copytree(folder, wanted.keeps / f"seed-{wanted.seed}", dirs_exist_ok=True)
         return made

@@ -4,6 +4,8 @@ it follows from the seed, or from the seed and the name of a world."""
 from dataclasses import dataclass, field
 from random import Random
 
+from hourstable.versions import ROWS, ROWS_BEFORE
+
 TASKS_OF_SECOND_JOB = 2
 KEYS = 8  # of each job
 LENGTH = 120.0  # seconds of a run
@@ -46,6 +48,8 @@ class Scene:
     kinds: tuple[str, ...] = ()
     every: float = 2.0  # seconds from a fault to the next
     begin: float = 10.0
+    forms: tuple[int, ...] = (ROWS, ROWS, ROWS)  # the newest forms of rows that planes read, at first
+    recovering: float = 0.0  # seconds from the begin on in which the jobs are recovered, before other faults
     length: float = LENGTH
     keeps_lines: bool = False  # whether a power loss takes nothing that was written, but for what is mapped
 
@@ -91,7 +95,10 @@ WORLDS: dict[str, tuple[str, ...]] = {
     "wild": ("wrong_rate", "jump", "kill"),
     "seconds": ("second", "kill", "part"),
     "folders": ("second", "beside", "copy", "kill", "freeze_task"),
-    "backup": ("backup", "go_back"),
+    "shared": ("second", "share", "share", "kill"),
+    "backup": ("backup", "go_back", "slip_back"),
+    "unheard": ("slip_unheard",),
+    "upgrades": ("turn", "failover", "pair"),
     "power": ("power", "kill", "cut"),
     "secrets": ("wrong_secret", "kill"),
     "roles": ("trespass", "kill", "term"),
@@ -107,6 +114,7 @@ SHARES = {  # how many of a hundred seeds have a world; the others are usual
     "quiet": 2, "failover": 6, "isolation": 4, "clocks": 4, "wild": 4, "seconds": 3, "backup": 2, "power": 5,
     "secrets": 3, "strangers": 3, "disks": 4, "callers": 2, "joiners": 8, "stores": 8, "partitions": 8,
     "handovers": 3, "pairs": 4, "folders": 1,
+    "usual": 2, "unheard": 1, "upgrades": 2, "shared": 1,  # seeds of faults that are mended keep their worlds
 }
 
 
@@ -151,22 +159,38 @@ def _after(tasks: tuple[int, ...], count: int) -> tuple[int, ...]:
     return tuple(range(tasks[-1] + 1, tasks[-1] + 1 + count))
 
 
+def _upgrade(made: Scene, rng: Random) -> None:
+    """Gives a scene planes of the release before, with one more kind of fault in half of all seeds. In half of them
+    the jobs are recovered first, while an upgrade is half done: one plane cannot read the form of their rows."""
+    made.guard, made.waits, made.forms = 10_000, True, (ROWS_BEFORE, ROWS_BEFORE)
+    made.kinds, made.every, made.length = ("turn",), 12.0, 170.0
+    if rng.random() < 0.5:
+        made.kinds, made.every, made.length = ("turn", "turn", rng.choice(("failover", "pair"))), 32.0, 250.0
+    if rng.random() < 0.5:
+        made.forms, made.recovering = (ROWS_BEFORE, ROWS), 25.0
+
+
 def _adapt(made: Scene, rng: Random) -> None:
     """Gives a scene what its world needs."""
     shop = made.jobs[0]
-    if made.world in ("failover", "handovers", "pairs", "isolation", "backup", "disks"):
+    if made.world in ("failover", "handovers", "pairs", "isolation", "backup", "disks", "upgrades", "unheard"):
         made.planes, made.engine, made.lone_assigners = 2, "rows", 0
         shop = made.jobs[0] = JobScene("shop", shop.tasks[:4])
         made.jobs = made.jobs[:1]
     if made.world in ("failover", "handovers", "pairs"):
         made.guard, made.every, made.length = 10_000, 30.0, 190.0
+    if made.world == "upgrades":
+        _upgrade(made, rng)
+    if made.world == "unheard":
+        made.seconds, made.waits = shop.tasks[:2], True
+        made.guard, made.every, made.length = 10_000, 35.0, 160.0
     if made.world in ("isolation", "disks"):
         made.guard, made.late = 4000, 0.0
         made.jobs.append(JobScene("cart", _after(shop.tasks, TASKS_OF_SECOND_JOB)))
     if made.world in ("strangers", "secrets"):  # the second job is not yet created when they come
         made.jobs[1:] = [JobScene("cart", _after(shop.tasks, TASKS_OF_SECOND_JOB))]
         made.late, made.every = 30.0, 1.5
-    if made.world in ("seconds", "folders"):
+    if made.world in ("seconds", "folders", "shared"):
         made.seconds, made.waits = shop.tasks[:2], True  # else nobody hears that a process was overtaken
     if made.world == "power":
         made.keeps_lines = rng.random() < 0.5

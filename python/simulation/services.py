@@ -24,6 +24,7 @@ PORT, SERVICE = 8070, 9000
 SECRET = "open-sesame-open-sesame"
 OTHER_SECRET = "another-secret-of-others"
 AGAIN = 2.0  # seconds after which a program that ended is started again
+JOB_TERMS = 2  # guard terms that a job lease lasts
 Main = Callable[["Service"], Awaitable[None]]
 
 
@@ -140,6 +141,8 @@ class Cluster:
         self.turned_away = 0  # and those that it did not
         self.callbacks = 0.0  # the part of callbacks of tasks that fail
         self.hot: str | None = None  # the key for which half of all requests are
+        self.forms = {f"plane{at}": form for at, form in enumerate(scene.forms)}  # the newest ones that planes read
+        self.turns = 0  # of planes to another release
         self.wrong: dict[str, str] = {}  # planes that are started wrongly, and how
         self.wrong_secrets: set[str] = set()  # tasks that are started with another secret
         self.draining: set[int] = set()
@@ -158,7 +161,7 @@ class Cluster:
         guard = self.scene.guard
         return {
             "redundancy": [job.owners, job.owners], "skew": 0, "guard": guard, "bridge": guard,
-            "job": 2 * guard, "numbers": 100_000,
+            "job": JOB_TERMS * guard, "numbers": 100_000,
         }
 
     def add(self, name: str, address: str, main: Main) -> Service:

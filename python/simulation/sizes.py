@@ -7,7 +7,7 @@ the lengths are those of what the package keeps, and not of what the simulator o
 from collections import Counter as Counts
 from collections import deque
 from collections.abc import Iterable, Mapping
-from functools import partial
+from functools import lru_cache, partial
 from types import MethodType
 from typing import Any
 
@@ -26,13 +26,24 @@ def sizes_of(program: object) -> Counts[str]:
     left: list[Found] = [("", program)]
     while left:
         place, it = left.pop()
-        if isinstance(it, PLAIN) or id(it) in seen:
+        kind: type = type(it)
+        looks, counts = _looks_into(kind)
+        if not looks or id(it) in seen:
             continue
         seen.add(id(it))
-        if isinstance(it, (Mapping, *LISTS)):
+        if counts:
             made[place] += len(it)
         left += _parts(place, it)
     return made
+
+
+@lru_cache(4096)
+def _looks_into(kind: type) -> tuple[bool, bool]:
+    """Returns whether objects of a class may have parts, and whether they are containers that count."""
+    counts = issubclass(kind, (Mapping, *LISTS))
+    is_known = kind.__module__.startswith((*OWN, METRICS))
+    has_parts = counts or is_known or issubclass(kind, (tuple, partial, MethodType))
+    return has_parts and not issubclass(kind, PLAIN), counts
 
 
 def _parts(place: str, it: Any) -> Iterable[Found]:

@@ -14,7 +14,7 @@ from dataclasses import dataclass
 from random import Random
 from typing import Any, TypeVar
 
-from hourstable.store import Conflict, Holding, NoSuchJob, Store, Stored, StoreFailed
+from hourstable.store import STEP, Conflict, Holding, NoSuchJob, Store, Stored, StoreFailed
 from hourstable.system import System
 
 from .loop import Held
@@ -70,8 +70,15 @@ class Rows:
             row.holder, row.rights = holding.holder, holding.rights
         return row.version
 
-    def draw_epoch(self) -> int:
-        self.epochs += 1
+    def recover(self, job: str, version: int, kept: bytes, lives: str, holding: Holding) -> None:
+        row = self.rows.get(job)
+        if row is None or row.version != version or row.holder != holding.before:
+            raise Conflict(f"{job} is not of version {version}")
+        row.version, row.kept, row.lives = version + STEP, kept, lives
+        row.holder, row.rights = holding.holder, holding.rights
+
+    def draw_epoch(self, steps: int) -> int:
+        self.epochs += steps
         return self.epochs
 
     def read_lives(self, job: str) -> tuple[str, Any]:
@@ -105,6 +112,9 @@ class Engine:
         self.frozen: dict[str, int] = {}  # hosts, and until when their calls hang
         self.locked: dict[str, int] = {}  # jobs, and until when their rows are locked
         self.backup: dict[str, Row] | None = None
+        self.backup_at = 0  # when it was made
+        self.backup_of: object = None  # who made it, if somebody is to go back to that one
+        self.is_back = False  # whether the store went back, and its jobs are not yet recovered
         self.writes = 0
         world.call_delay = self.delay
         world.call_through = self.perform
@@ -135,14 +145,11 @@ class Engine:
 
     def keep_backup(self) -> None:
         if not self.is_sqlite:
-            self.backup = deepcopy(self.rows.rows)
+            self.backup, self.backup_at, self.backup_of = deepcopy(self.rows.rows), self.world.now, None
 
-    def go_back(self) -> bool:
-        """Goes back to the backup, and returns whether there is one."""
-        if self.backup is None:
-            return False
-        self.rows.rows = deepcopy(self.backup)
-        return True
+    def go_back(self) -> None:
+        """Goes back to the backup."""
+        self.rows.rows, self.is_back = deepcopy(self.backup or {}), True
 
 
 def _quietly(call: Callable[[], Any]) -> None:
@@ -193,6 +200,9 @@ class SharedStore(Store):
     ) -> int:
         return await self._do(lambda: self._rows.swap(job, version, kept, line, holding), job, True)
 
+    async def recover(self, job: str, version: int, kept: bytes, lives: str, holding: Holding) -> None:
+        await self._do(lambda: self._rows.recover(job, version, kept, lives, holding), job, True)
+
     async def read_lives(self, job: str) -> tuple[str, Any]:
         return await self._do(lambda: self._rows.read_lives(job), job, False)
 
@@ -205,8 +215,8 @@ class SharedStore(Store):
     async def beat(self, process: int, text: str) -> dict[int, str]:
         return await self._do(lambda: self._rows.beat(process, text), "", True)
 
-    async def draw_epoch(self) -> int:
-        return await self._do(self._rows.draw_epoch, "", True)
+    async def draw_epoch(self, steps: int = 1) -> int:
+        return await self._do(lambda: self._rows.draw_epoch(steps), "", True)
 
     async def close(self) -> None:
         pass

@@ -27,6 +27,16 @@ FIRST_DAY = 20_000 * 86_400 * SECOND  # the real time of the world when it begin
 Action = Callable[[], object]
 
 
+class Timed:
+    """An event of the world that may be cancelled: then it does not happen at all."""
+
+    __slots__ = ("is_cancelled",)
+    is_cancelled: bool
+
+    def __call__(self) -> object:
+        raise NotImplementedError
+
+
 class Host:
     """A machine: its address, its clocks, its disk, and whether it runs."""
 
@@ -171,6 +181,8 @@ class World:
         heap, enter = self._heap, self.enter
         while heap and heap[0][0] <= end:
             when, _, process, action = heappop(heap)
+            if isinstance(action, Timed) and action.is_cancelled:
+                continue
             now = self.now
             self.now = (when if when > now else now) + STEP
             enter(process, action)

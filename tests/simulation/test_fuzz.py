@@ -149,7 +149,7 @@ def answered(status: int | None, what: object) -> None:
     assert status is None or status < 500, what
 
 
-# What python/README.md says of bodies: for each call its members, each with what it may be, and the statuses of a
+# What docs/HTTP.md says of bodies: for each call its members, each with what it may be, and the statuses of a
 # right one. A member that may be left out has a question mark.
 Is = Callable[[object], bool]
 U64 = (1 << 64) - 1
@@ -190,7 +190,10 @@ def is_redundancy(it: object) -> bool:
 
 
 TASK, LIFE = number(1, 64), number(1, (1 << 32) - 1)
-GRANT: dict[str, Is] = {"task": TASK, "life": LIFE, "key?": text, "place?": is_place, "shown?": is_shown}
+GRANT: dict[str, Is] = {
+    "task": TASK, "life": LIFE, "key?": text, "place?": is_place, "shown?": is_shown,
+    "let_in?": lambda it: type(it) is bool,
+}
 WORDS = ("skew", "guard", "bridge", "job", "numbers")
 CALLS: dict[str, tuple[dict[str, Is], set[int]]] = {
     "/jobs/{job}/grant": (GRANT, {200, 403, 409, 429}),
@@ -214,7 +217,7 @@ RIGHT: dict[str, st.SearchStrategy[Any]] = {  # values that are mostly right
     "shown": st.dictionaries(st.integers(0, 9).map(str), st.text(max_size=4), max_size=3),
     "grants": st.lists(st.fixed_dictionaries({"job": st.just(JOB), "task": SMALL, "life": SMALL}), max_size=3),
     "loads": st.lists(st.tuples(SMALL, st.integers(60, 200), SMALL).map(list), max_size=3),
-    "redundancy": st.just([1, 1]), "denied": st.just({}),
+    "redundancy": st.just([1, 1]), "denied": st.just({}), "let_in": st.booleans(),
 }
 
 
@@ -271,7 +274,7 @@ def test_any_body_of_any_route(fuzzed: Fuzzed, data: st.DataObject) -> None:
     path = path_of(canonical) + (b"?term=1" if canonical.endswith("propose") else b"")
     status = fuzzed.ask(method, path, body=body)
     answered(status, (method, path, body))
-    if method == b"POST" and not canonical.endswith("/life") and not _is_object(body):
+    if method == b"POST" and not canonical.endswith(("/life", "/look")) and not _is_object(body):  # they read no body
         assert status is not None and 400 <= status < 500
 
 

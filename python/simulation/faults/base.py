@@ -9,7 +9,9 @@ from ..services import Cluster, Service
 from ..world import SECOND
 
 Undo = Callable[[], object]
-ONE_BY_ONE = ("failover", "handovers", "pairs")  # worlds in which one fault has ended before the next one
+# Worlds in which one fault has ended before the next one.
+ONE_BY_ONE = ("failover", "handovers", "pairs", "upgrades", "unheard")
+LOOK = 0.25  # seconds between two looks for processes that serve one key
 LOAD_EVERY = 4.0  # seconds between two changes of the hot key
 
 
@@ -38,6 +40,15 @@ class Strike:
         found = [one for one in known if not kinds or one.kind in kinds]
         return self.rng.choice(found)
 
+    def look(self, seconds: float) -> None:
+        """Asks all processes for all keys of the first job, again and again for a while: what is wrong may be so for
+        a moment alone."""
+        cluster, job = self.cluster, self.cluster.scene.jobs[0]
+        for key in job.keys:
+            cluster.oracle.scan(cluster.running(job), key)
+        if seconds > 0:
+            self.world.after(LOOK, lambda: self.look(seconds - LOOK))
+
     def leases(self, times: float) -> float:
         """Returns the seconds of so many guard terms."""
         return times * self.cluster.scene.term
@@ -64,7 +75,9 @@ def plan_of(scene: Scene) -> list[Fault]:
     """Returns the faults of a scene in the order of their times."""
     rng = Random(f"{scene.seed} plan")
     made: list[Fault] = []
-    at = scene.begin
+    at = scene.begin + scene.recovering
+    if scene.recovering:
+        made.append(Fault(0, int(scene.begin * SECOND), "recover"))
     others = [it for it in scene.kinds if it != "load"]
     while others:
         at += rng.expovariate(1 / scene.every) if scene.world not in ONE_BY_ONE else scene.every

@@ -1,8 +1,14 @@
 """Faults of processes and hosts."""
 
+import os
+
+from hourstable.versions import ROWS, ROWS_BEFORE
+
 from ..services import Service
 from ..world import MILLISECOND, SECOND, Host
 from .base import Strike, kind
+
+LOOKED_FOR = 4.0  # seconds in which a process that was overtaken hears of it
 
 
 @kind
@@ -77,6 +83,21 @@ def strike_hand_over(strike: Strike) -> None:
     process = service.process if service is not None else None
     if service is not None and process is not None and process.on_signal is not None:
         strike.tell(service.name)
+        strike.world.enter(process, process.on_signal)
+
+
+@kind
+def strike_turn(strike: Strike) -> None:
+    """A plane is asked to end, as by SIGTERM, and started as one of the other release: all of them one after the
+    other, and back."""
+    cluster = strike.cluster
+    planes = cluster.of("plane")
+    service = planes[cluster.turns % len(planes)]
+    form = ROWS_BEFORE if cluster.forms[service.name] == ROWS else ROWS
+    cluster.forms[service.name], cluster.turns = form, cluster.turns + 1
+    strike.tell(f"{service.name} is to read rows up to form {form}")
+    process = service.process
+    if process is not None and process.on_signal is not None:
         strike.world.enter(process, process.on_signal)
 
 
@@ -224,6 +245,28 @@ def strike_copy(strike: Strike) -> None:
         made.parent.mkdir(parents=True, exist_ok=True)
         made.write_bytes(path.read_bytes())  # a file that is there keeps its inode, as cp does
     strike.tell(f"task{number}")
+
+
+@kind
+def strike_share(strike: Strike) -> None:
+    """The folder of a task is that of its second process as well, on another host, which starts just then, shows the
+    keys in it, and gets the lock: that of the first process is lost."""
+    number = strike.rng.choice(strike.cluster.scene.seconds)
+    first, second = (strike.cluster.services[f"{it}{number}"] for it in ("task", "again"))
+    if second.process is not None:
+        return
+    here, there = first.host.disk.folder, second.host.disk.folder
+    for path in sorted((here / "state").rglob(f"task-{number}.[kl]*")):
+        made = there / path.relative_to(here)
+        made.parent.mkdir(parents=True, exist_ok=True)
+        made.unlink(missing_ok=True)
+        if path.suffix == ".lock":
+            os.link(path, made)  # one inode
+        else:
+            made.write_bytes(path.read_bytes())
+    first.host.disk.lose_lock(f"task-{number}.lock")
+    _run_beside(strike, second)
+    strike.look(LOOKED_FOR)
 
 
 @kind
