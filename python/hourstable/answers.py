@@ -11,7 +11,7 @@ from aiohttp import web
 from hourstable import logs
 from hourstable.jobs import Made, is_number
 from hourstable.metrics import word_of
-from hourstable.rights import Asked, NotAdmitted, Place
+from hourstable.rights import Asked, Heard, NotAdmitted, Place
 from hourstable.table_calls import Malformed
 
 T = TypeVar("T")
@@ -19,7 +19,7 @@ READING = "Hourstable-Reading"
 HOLDER = "Hourstable-Holder"  # the address of the plane that did a call which was handed on to it
 KEY = "Hourstable-Key"  # of the life that gives leases back, whose body is a message
 MOST_SHOWN, MOST_WORD = 8, 128  # lives whose keys are shown; characters of a key or a part of a place
-TASKS, LIVES = range(1, 65), range(1, 1 << 32)
+TASKS, LIVES, NUMBERS = range(1, 65), range(1, 1 << 32), range(1 << 64)
 JSON = {"Content-Type": "application/json"}
 
 
@@ -60,13 +60,25 @@ def member(given: dict[str, Any], name: str, limits: range) -> int:
 
 
 def asked_in(given: dict[str, Any]) -> Asked:
-    """Returns who asks for a grant. Raises Malformed."""
+    """Returns who asks for a grant, or only to be let in. Raises Malformed."""
     task, life, key = member(given, "task", TASKS), member(given, "life", LIVES), word_in(given, "key")
     place, shown = given.get("place", {}), given.get("shown", {})
     if not isinstance(place, dict) or not isinstance(shown, dict) or len(shown) > MOST_SHOWN:
         raise Malformed(f"place is no object, or shown is none of at most {MOST_SHOWN} lives")
+    let_in = given.get("let_in", False)
+    if not isinstance(let_in, bool):
+        raise Malformed("let_in is neither true nor false")
     where = Place(*(word_in(place, name) for name in Place._fields))
-    return Asked(task, life, key, where, tuple((_life_of(text), word_in(shown, text)) for text in shown))
+    keys = tuple((_life_of(text), word_in(shown, text)) for text in shown)
+    return Asked(task, life, key, where, keys, let_in, _heard_in(given))
+
+
+def _heard_in(given: dict[str, Any]) -> Heard:
+    """Returns what a task heard. Raises Malformed."""
+    heard = given.get("heard", {})
+    if not isinstance(heard, dict):
+        raise Malformed("heard is no object")
+    return Heard(*(member(heard, name, NUMBERS) if name in heard else 0 for name in Heard._fields))
 
 
 def word_in(given: dict[str, Any], name: str) -> str:

@@ -12,7 +12,7 @@ from urllib.parse import quote
 
 import aiohttp
 
-from . import beats
+from . import beats, versions
 from .asked import Planes, Tries
 from .library import Refused
 from .system import SYSTEM, System
@@ -29,7 +29,7 @@ LIMITED = 1.0  # seconds that pass at least after a 429 before a call is made ag
 TOLD_EVERY = 60.0  # seconds between two lines of the log about one trouble of a plane
 READINGS = 1 << 62  # those of a table are below it
 DOWN = (404, 500, 502, 503, 504)  # statuses of a plane that cannot do the call now; the job may be created later
-UNREADABLE = "unreadable"
+UNREADABLE, VERSION = "unreadable", "version"
 MEND = {
     "400": "look whether it runs another version, or whether its or this host's real time is wrong",
     "401": "give it the secret of its callers (--secret-file), or this caller the secret of the planes (secret=)",
@@ -37,6 +37,7 @@ MEND = {
            " name of --host; or a proxy before it keeps the caller out",
     "429": "look at hourstable_limited_total of the plane; --grants and --most-connections raise its limits",
     "ticket": "see to the real time of its host, and of this one",
+    VERSION: "upgrade this caller",
     UNREADABLE: "look what listens there: a proxy, or something that is no control plane",
 }
 OTHER = "other"  # any other status
@@ -142,7 +143,7 @@ class Control:
         self.planes = Planes(self.urls, system.monotonic, timeout)
         self.job, self.tickets, self.local_clock = job, tickets, local_clock
         self.timeout = timeout
-        self._headers = {"Content-Type": "application/json", beats.HEADER: beats.TAKES}
+        self._headers = {"Content-Type": "application/json", beats.HEADER: beats.TAKES, **versions.SAYS}
         if secret is not None:
             self._headers["Authorization"] = f"Bearer {secret}"
         self._own = Http(tls)
@@ -316,6 +317,9 @@ def _taken(url: str, status: int, headers: Mapping[str, str], body: bytes, sent:
     """Returns the answer of a response, or raises what it means."""
     text = f"{url}: {status} {body[:200].decode('utf-8', 'replace')}"
     again = seconds_in(headers.get("Retry-After"))
+    newer = versions.why_not(headers, "the answer")
+    if newer is not None:
+        raise Wrong(f"{url}: {newer}", VERSION, status=status)
     if status in DOWN:
         raise Unreachable(text, again, status)
     if status != 409 and not 200 <= status <= 204:

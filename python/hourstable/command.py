@@ -12,7 +12,7 @@ from collections.abc import Sequence
 from functools import partial
 from pathlib import Path
 
-from hourstable import context, installed, logs
+from hourstable import capacity, context, installed, logs
 from hourstable.assigner import AssignerOfJobs
 from hourstable.auditing import Audit
 from hourstable.callers import Callers, secrets_in, warn_if_open
@@ -20,8 +20,11 @@ from hourstable.clock import local_clock
 from hourstable.desk import HttpDesk, Unreachable
 from hourstable.limits import Limits
 from hourstable.plans import Hysteresis, slices_in
+from hourstable.recover import StillRuns, recover
 from hourstable.service import ControlPlane, Options, process_number
-from hourstable.store import DEADLINE, StoreFailed, password_in
+from hourstable.store import (
+    DEADLINE, Conflict, LivesSpent, NoSuchJob, StoreFailed, open_store, password_in,
+)
 from hourstable.tickets import NoTickets, Tickets
 
 DEMO_SECONDS = 34
@@ -56,14 +59,15 @@ def parser() -> argparse.ArgumentParser:
     _drain_words(subcommands.add_parser("drain", help="let a task own no more keys"))
     _evict_words(subcommands.add_parser("evict", help="let another process of a task in"))
     _end_words(subcommands.add_parser("end", help="end a job"))
+    _recover_words(subcommands.add_parser("recover", help="recover jobs whose store went back, as to a backup"))
     _doctor_words(subcommands.add_parser("doctor", help="say what ails a control plane, and what to do"))
+    capacity.add_words(subcommands.add_parser("plan", help="say what a service of some size costs"))
     _audit_words(subcommands.add_parser("audit", help="audit the logs of a job"))
     _demo_words(subcommands.add_parser("demo", help="run a cache, break it, and audit it"))
     return made
 
 
-def _control_words(words: argparse.ArgumentParser) -> None:
-    words.set_defaults(run=_control)
+def _store_words(words: argparse.ArgumentParser) -> None:
     store = words.add_mutually_exclusive_group()
     store.add_argument("--store", metavar="URL",
                        help="sqlite:FILE, postgresql://.., etcd://HOST:PORT,.. or etcds://.. without a password")
@@ -71,6 +75,11 @@ def _control_words(words: argparse.ArgumentParser) -> None:
                        help=f"the first line is the URL; without both words it is that of ${STORE}")
     words.add_argument("--store-deadline", type=float, default=DEADLINE, metavar="SECONDS",
                        help=f"in which a call of the store is answered, or fails ({DEADLINE:g})")
+
+
+def _control_words(words: argparse.ArgumentParser) -> None:
+    words.set_defaults(run=_control)
+    _store_words(words)
     words.add_argument("--listen", required=True, metavar="HOST:PORT")
     logged = words.add_mutually_exclusive_group(required=True)
     logged.add_argument("--logs", metavar="FOLDER", type=Path, help="for the logs of all jobs")
@@ -88,6 +97,8 @@ def _control_words(words: argparse.ArgumentParser) -> None:
                         help="other planes may use the store (the default but for SQLite)")
     shared.add_argument("--alone", action="store_false", dest="shared",
                         help="no other plane uses the store")
+    words.add_argument("--need-keys", action="store_true",
+                       help="give no lease to lives that show no key, as those of tasks of versions up to 1.0")
     words.add_argument("--standby", type=float, default=2.0, metavar="SECONDS",
                        help="for how long another plane is silent before this one takes its jobs (2)")
     words.add_argument("--address", default="", metavar="URL",
@@ -180,6 +191,17 @@ def _end_words(words: argparse.ArgumentParser) -> None:
     words.add_argument("job")
 
 
+def _recover_words(words: argparse.ArgumentParser) -> None:
+    words.set_defaults(run=_recover)
+    words.description = (
+        "Run it after a backup of the store was put back, or a replica was promoted that lacked writes, and before"
+        " any control plane runs. All that only rises is raised above what may have been answered, all keys of lives"
+        " are void, and planes give no lease until those that may be out have ended."
+    )
+    _store_words(words)
+    words.add_argument("jobs", nargs="*", metavar="JOB", help="what to recover (all jobs of the store)")
+
+
 def _doctor_words(words: argparse.ArgumentParser) -> None:
     words.set_defaults(run=_doctor)
     words.description = (
@@ -262,7 +284,7 @@ def options_of(chosen: argparse.Namespace) -> Options:
         assigner=chosen.assigner, callers=callers, hosts=[host, *chosen.host],
         tls=tls, limits=limits, rules=_rules_in(chosen),
         store_deadline=chosen.store_deadline, state=chosen.state, keep_logs=chosen.keep_logs,
-        address=chosen.address.rstrip("/"), peer_tls=peer_tls(chosen),
+        address=chosen.address.rstrip("/"), peer_tls=peer_tls(chosen), needs_keys=chosen.need_keys,
     )
 
 
@@ -288,9 +310,10 @@ async def _run_control(chosen: argparse.Namespace) -> int:
     ended, again, options = signalled(), hung_up(), options_of(chosen)
     raise_open_files(chosen.most_connections)
     running = ControlPlane(options)
-    port = await running.start()
+    if not await running.start_unless(ended):
+        return 0
     running.reload_at(again, partial(access_of, chosen))
-    url = f"{'https' if options.tls else 'http'}://{chosen.listen.rpartition(':')[0]}:{port}"
+    url = f"{'https' if options.tls else 'http'}://{chosen.listen.rpartition(':')[0]}:{running.port}"
     print(f"listening on {url}", flush=True)
     warn_of_callers(chosen)
     await ended.wait()
@@ -344,6 +367,16 @@ def warn_of_callers(chosen: argparse.Namespace) -> None:
     }
     for some in (some for some, is_so in who.items() if is_so):
         logging.getLogger("hourstable").warning("%s may do everything: give each caller a role by --callers", some)
+    if (chosen.callers or chosen.secret_file) and not (chosen.tls_cert or is_loopback(chosen.listen)):
+        logging.getLogger("hourstable").warning(
+            "secrets of callers and of planes go over the network in the clear: use TLS (--tls-cert, --tls-key)"
+        )
+
+
+def is_loopback(listen: str) -> bool:
+    """Whether nobody reaches HOST:PORT from another host."""
+    host = listen.rpartition(":")[0].strip("[]")
+    return host in ("localhost", "::1") or host.startswith("127.")
 
 
 def server_tls(chosen: argparse.Namespace, callers: Callers) -> ssl.SSLContext | None:
@@ -468,6 +501,26 @@ async def _run_end(chosen: argparse.Namespace) -> int:
             await asyncio.sleep(max(0.1, after))
     finally:
         await desk.close()
+
+
+def _recover(chosen: argparse.Namespace) -> int:
+    return asyncio.run(_run_recover(chosen))
+
+
+async def _run_recover(chosen: argparse.Namespace) -> int:
+    """Recovers jobs, and says what is to be done then."""
+    store = await open_store(store_in(chosen), chosen.store_deadline)
+    try:
+        recovered = await recover(store, chosen.jobs)
+    except NoSuchJob as error:
+        raise ValueError(f"there is no job {error}") from error
+    except (StillRuns, Conflict, LivesSpent) as error:
+        raise StoreFailed(str(error)) from error
+    finally:
+        await store.close()
+    for job, seconds in recovered:
+        print(f"{job}: recovered. Its planes give no lease for {seconds:g} s from their start on")
+    return 0
 
 
 def owners_in(assignment: bytes | None) -> set[int]:

@@ -9,7 +9,7 @@ import json
 import logging
 import socket
 import ssl
-from collections.abc import Awaitable, Callable, Sequence
+from collections.abc import Awaitable, Callable, Iterable, Sequence
 from dataclasses import dataclass, field
 from functools import partial
 from typing import Any, TypeVar
@@ -17,7 +17,7 @@ from urllib.parse import urlsplit
 
 from aiohttp import web
 
-from hourstable import page, roles
+from hourstable import page, roles, versions
 from hourstable import tickets as ticketing
 from hourstable.access import Access, Turned, caller_in, look_at_task, route_of
 from hourstable.answers import (
@@ -30,7 +30,8 @@ from hourstable.context import note
 from hourstable.failures import Failures
 from hourstable.forwarding import HEADER as FORWARDED
 from hourstable.forwarding import Carried, Forwarding
-from hourstable.jobs import Job, Made, Replaced, Settings, policy_of
+from hourstable.handed import Handed
+from hourstable.jobs import Job, Made, Others, Replaced, Settings, policy_of
 from hourstable.keys import KeyTold
 from hourstable.lanes import Lanes
 from hourstable.library import Refused, Table
@@ -44,12 +45,12 @@ from hourstable.readiness import Readiness
 from hourstable.record import Record
 from hourstable.request_ids import name_answer, traced
 from hourstable.rights import SECRET, Asked, JobEnds, NotAdmitted, Rights, WrongKey
-from hourstable.store import Conflict, Damaged, LivesSpent, NoSuchJob, Store, StoreFailed
+from hourstable.store import Conflict, Damaged, LivesSpent, NoSuchJob, Seen, Store, StoreFailed, StoreRefused
 from hourstable.supervisor import Supervisor
-from hourstable.table_calls import Call, Commit, Free, Grant, Malformed, Propose, Renew, Take, term_of
+from hourstable.table_calls import Call, Commit, Free, Grant, LetIn, Malformed, Propose, Renew, Take, term_of
 from hourstable.tickets import Tickets
 from hourstable.transport import Http, Transport
-from hourstable.waiting import within
+from hourstable.waiting import Backoff, Shared, within
 from hourstable.waits import Waits
 
 T = TypeVar("T")
@@ -100,6 +101,22 @@ class Followed:
         )
 
 
+class OthersOf(Others):
+    """What a job of a plane asks about the other planes."""
+
+    def __init__(self, plane: "Plane") -> None:
+        self._plane = plane
+
+    def may_take(self, job: Job) -> bool:
+        return self._plane.forwarding.may_take(job)
+
+    def told(self, job: str) -> Iterable[Seen]:
+        return self._plane.peers.told(job)
+
+    def reads(self, own: int) -> int:
+        return self._plane.peers.reads()
+
+
 class Plane:
     """A control plane over a store."""
 
@@ -113,7 +130,8 @@ class Plane:
         self._now = settings.system.monotonic
         self.jobs: dict[str, Followed] = {}
         self.failures = Failures()
-        self.peers = Peers(store, settings.process, settings.incarnation, settings.standby, self._now)
+        told = settings.incarnation, settings.standby, self._now, settings.row_form
+        self.peers = Peers(store, settings.process, *told)
         self.forwarding = Forwarding(
             self.peers, tickets, transport or Http(), self.failures, self._now,
             lambda: self.access.callers.secret_of_admin(),
@@ -129,9 +147,11 @@ class Plane:
         self.supervisor = Supervisor(
             f"plane {settings.process}", log, self.metrics.internal_error, settings.system.random().random
         )
+        self._opening = Shared[Followed]()
         self._looking: set[str] = set()  # jobs at which it looks now
-        self._taking: set[str] = set()  # jobs that it takes now
+        self._taking: set[str] = set()  # jobs that it takes now, or writes once more
         self._probing: asyncio.Task[None] | None = None  # whether other planes answer
+        self.has_begun = False  # whether the store has answered
         self.is_ending = False  # whether it gives its jobs away
 
     # Starting and ending ---------------------------------------------------------------------
@@ -139,11 +159,44 @@ class Plane:
     async def start(
         self, host: str, port: int, tls: ssl.SSLContext | None = None, poll: float = 1.0, address: str = ""
     ) -> int:
-        """Listens, and returns the port. `address` is the URL at which the other planes of the store reach this one,
-        by default that of the host and the port. Raises BlockingIOError if one of them has the number of this one."""
+        """Listens, and returns the port once the store answers. Until then probes are answered, and all else is
+        refused. `address` is the URL at which the other planes of the store reach this one, by default that of the
+        host and the port. Raises BlockingIOError if one of them has the number of this one, and StoreRefused."""
+        backoff = Backoff(self.settings.system.random().random)
+        made = None
+        while not await self._has_store():
+            made = made or await self._listen(host, port, tls, address)
+            await asyncio.sleep(backoff.seconds())
+        self.has_begun = True
+        made = made or await self._listen(host, port, tls, address)
+        self.supervisor.watch("poller", partial(self._poll, poll))
         if self.settings.shared:
-            await self.peers.check()
-        await asyncio.gather(*map(self._look_at, await self.store.jobs()))
+            await self._beat_once()
+            self.supervisor.watch("beats", self._beat)
+        return made
+
+    async def _has_store(self) -> bool:
+        """Opens the store, and looks at its jobs. Returns whether it answered."""
+        try:
+            await self.store.open()
+            if self.settings.shared:
+                await self.peers.check()
+            names = await self.store.jobs()
+        except StoreRefused:
+            raise
+        except StoreFailed as error:
+            if not self.readiness.lacks:
+                log.warning("the store does not answer, and the plane waits for it: %s", error)
+            self.readiness.lacks = str(error)
+            return False
+        if self.readiness.lacks:
+            log.info("the store answers")
+        self.readiness.lacks = ""
+        await asyncio.gather(*map(self._look_at, names))
+        return True
+
+    async def _listen(self, host: str, port: int, tls: ssl.SSLContext | None, address: str) -> int:
+        """Listens, and returns the port."""
         self._runner = web.AppRunner(self.application(), access_log=None, lingering_time=LINGERING)
         await self._runner.setup()
         server, turned = self._runner.server, self.metrics.turned
@@ -153,13 +206,10 @@ class Plane:
             self.connections.door, host, port, backlog=BACKLOG, reuse_address=True
         )
         self.supervisor.watch("overload", self.overload.watch)
-        self.supervisor.watch("poller", partial(self._poll, poll))
         made: int = self._server.sockets[0].getsockname()[1]
         if self.settings.shared:
             self.peers.address = address or url_of(host, made, tls is not None)
             self.access.reached_by(urlsplit(self.peers.address).hostname)
-            await self._beat_once()
-            self.supervisor.watch("beats", self._beat)
         return made
 
     async def stop(self) -> None:
@@ -178,6 +228,7 @@ class Plane:
             await self._runner.shutdown()
             await self._runner.server.shutdown(self.limits.patience)
             await self._runner.cleanup()
+        await self._opening.close()
         settling = [asyncio.create_task(self._settle(one.job)) for one in self.jobs.values()]
         if settling:
             _, late = await asyncio.wait(settling, timeout=self.limits.patience)
@@ -236,13 +287,15 @@ class Plane:
             await asyncio.sleep(self.peers.interval)
             await self._beat_once()
             self._take_jobs()
+            self._fit_jobs()
             if self._probing is None or self._probing.done():
                 self._probing = self.supervisor.spawn("probe", self.forwarding.probe())
 
     async def _beat_once(self) -> None:
         heard = {name: self.forwarding.heard(followed.job) for name, followed in self.jobs.items()}
+        rows = {name: followed.job.newest for name, followed in self.jobs.items()}
         try:
-            await self.peers.beat(heard, self.failures.of_plane())
+            await self.peers.beat(heard, self.failures.of_plane(), rows=rows)
         except StoreFailed as error:
             log.info("the beat of this plane was not written: %s", error)
 
@@ -270,6 +323,20 @@ class Plane:
             log.info("%s was taken from process %s", job.name, job.holder)
             self.failures.well(job.name, "call")
 
+    def _fit_jobs(self) -> None:
+        """Writes the rows of jobs once more that another plane does not read which beats."""
+        for name, followed in self.jobs.items():
+            if followed.job.is_too_new() and name not in self._taking:
+                self._taking.add(name)
+                fitting = self.supervisor.spawn("fit", self._fit(followed.job))
+                fitting.add_done_callback(partial(self._took, name))
+
+    async def _fit(self, job: Job) -> None:
+        try:
+            await job.fit()
+        except (Replaced, NoSuchJob, StoreFailed) as error:  # it is done at the next beat
+            log.info("%s was not written once more: %r", job.name, error)
+
     async def _hand_over(self) -> None:
         """Gives the jobs that this plane holds to others, so that no key is denied while it ends."""
         if not (self.settings.shared and self.peers.others()):
@@ -279,15 +346,15 @@ class Plane:
             await asyncio.wait(giving, timeout=self.limits.patience)
 
     async def _give(self, job: Job) -> None:
-        """Gives a job to another plane, after what is proposed is committed: that one knows no rows, so that its
-        commits wait until the leases of this one have ended."""
+        """Gives a job to another plane with its rows, after what is proposed is committed: the assigner of that one
+        waits until the term of this one's has ended."""
         end = self._now() + self.limits.patience / 2
         while job.view.proposed and self._now() < end:
             await job.changed(0.1)
         try:
-            await job.give_away()
+            handed = await job.give_away()
             for process in self.peers.others():
-                if await self.forwarding.give(job, process, self.settings.standby):
+                if await self.forwarding.give(job, process, self.settings.standby, handed):
                     await job.refresh()
                     log.info("%s was given to process %d", job.name, process)
                     return
@@ -369,25 +436,34 @@ class Plane:
 
     def _job(self, name: str) -> Job:
         given = self.store, self.settings, self.tickets, self.metrics
-        return Job(name, *given, may_take=self.forwarding.may_take)
+        return Job(name, *given, OthersOf(self))
 
     async def followed(self, name: str) -> Followed:
         """Returns a job. Raises NoSuchJob, and what loading it raises, which is noted."""
         found = self.jobs.get(name)
-        if found is None:
-            job = self._job(name)
-            try:
-                await job.load()
-                await job.read_lives()
-            except BaseException as error:
-                job.close()
-                if isinstance(error, Exception) and not isinstance(error, NoSuchJob):
-                    self._fail(name, "read", error)
+        if found is not None:
+            return found
+        was_begun, opens = self._opening.is_begun(name), partial(self._open, name)
+        try:
+            return await self._opening.result(name, opens)
+        except NoSuchJob:
+            if not was_begun:
                 raise
-            found = self.jobs.setdefault(name, Followed(job, Loads(), {}, {}))
-            if found.job is not job:
-                job.close()
-        return found
+        return await self._opening.result(name, opens)  # the job may have been created after the row was looked for
+
+    async def _open(self, name: str) -> Followed:
+        """Loads a job. One at a time: a second one would have the log open while the first one writes it."""
+        job = self._job(name)
+        try:
+            await job.load()
+            await job.read_lives()
+        except BaseException as error:
+            job.close()
+            if isinstance(error, Exception) and not isinstance(error, NoSuchJob):
+                self._fail(name, "read", error)
+            raise
+        made = self.jobs[name] = Followed(job, Loads(), {}, {})
+        return made
 
     # Calls of tables -------------------------------------------------------------------------
 
@@ -415,6 +491,8 @@ class Plane:
                 followed.lanes.saw(job, call, done.result())
                 if isinstance(call, Propose) and done.result().at is not None:
                     self.record.evicted(job, call, followed.alive(self._now()), followed.draining())
+            if isinstance(call, Propose | Commit) and done.result().refusal is None and self.peers.others():
+                self.supervisor.spawn("tell", self.forwarding.tell(job))
         elif isinstance(error, Exception) and not isinstance(error, REFUSED):
             self._fail(job.name, "call", error)
 
@@ -427,7 +505,7 @@ class Plane:
             timer.cancel()
 
     async def begin_grant(self, name: str, asked: Asked) -> "asyncio.Future[Made[bytes]]":
-        """Asks the table for a grant. Raises NoSuchJob and Limited."""
+        """Asks the table for a grant, or only lets a life in. Raises NoSuchJob and Limited."""
         followed, now = await self.followed(name), self._now()
         bucket = followed.buckets.setdefault(
             asked.task, Bucket(self.limits.grants, self.limits.burst, now)
@@ -436,7 +514,7 @@ class Plane:
         if after > 0:
             raise Limited("grants", after)
         followed.seen[asked.task] = now
-        return self._begin(followed.job, Grant(asked))
+        return self._begin(followed.job, LetIn(asked) if asked.let_in else Grant(asked))
 
     async def create(self, name: str, given: object) -> bool:
         """Creates a job, and returns whether it is new. Raises Malformed, Limited and Conflict, if
@@ -505,7 +583,7 @@ class Plane:
         made = web.Application(
             client_max_size=self.limits.body + 1, middlewares=[traced, self._around]
         )
-        made.on_response_prepare.append(name_answer)
+        made.on_response_prepare.extend((name_answer, say_version))
         made.add_routes([  # they are looked at in this order: the calls of tasks come first
             web.post("/jobs/{job}/grant", self._carried(self._post_grant)),
             web.get("/jobs/{job}/phase", self._get_phase),
@@ -521,6 +599,7 @@ class Plane:
             web.post("/jobs/{job}/commit", self._carried(self._post_commit)),
             web.post("/jobs/{job}/drain", self._post_drain),
             web.post("/jobs/{job}/hold", self._post_hold),
+            web.post("/jobs/{job}/look", self._post_look),
             web.post("/jobs/{job}/evict", self._post_evict),
             web.delete("/jobs/{job}", self._delete_job),
             web.get("/jobs/{job}", self._get_job),
@@ -549,6 +628,9 @@ class Plane:
             answer = self._failure_of(request, turned)
             answer.force_close()
             return answer
+        wrong = None if is_public else versions.why_not(request.headers, "the call")
+        if wrong is not None:
+            return failure(400, wrong, refused="version")
         try:
             if not is_public:
                 self.tickets.observe_text(request.headers.get(ticketing.HEADER))
@@ -566,6 +648,8 @@ class Plane:
         try:
             await self._take_whole(request)
             self.access.admit(request)
+            if not (self.has_begun or roles.is_public(route_of(request))):
+                return failure(503, "the plane waits for its store", 1, refused="store")
             self._leave_out(request)
             return await handler(request)
         except ANSWERED as error:
@@ -661,7 +745,7 @@ class Plane:
 
     async def _readyz(self, request: web.Request) -> web.Response:
         is_ready, shown = await self.readiness.shown(self.access.reads_all(request))
-        is_ready = shown["ready"] = is_ready and not (self.is_ending or self.waits.is_closing)
+        is_ready = shown["ready"] = is_ready and self.has_begun and not (self.is_ending or self.waits.is_closing)
         return answer_of(shown, 200 if is_ready else 503)
 
     async def _get_record(self, request: web.Request) -> web.Response:
@@ -751,7 +835,9 @@ class Plane:
         followed, given = await self.followed(job_in(request)), await json_of(request)
         task = task_in(request, given)
         life = member(given, "life", LIVES) if "life" in given else 0
-        followed.job.rights.check(task, life, word_in(given, "key"))
+        key = word_in(given, "key")
+        followed.job.need_key(task, life, key)
+        followed.job.rights.check(task, life, key)
         try:
             denials = Denials.read(given)
             followed.loads.report(task, given.get("loads"), self._now())
@@ -867,13 +953,18 @@ class Plane:
     async def _post_hold(self, request: web.Request) -> web.Response:
         """Takes a job that another plane gives away."""
         job, given = (await self.followed(job_in(request))).job, await json_of(request)
-        job.given_by = member(given, "process", range(64))
+        job.given_by, job.handed = member(given, "process", range(64)), Handed.read(given.get("table"))
         try:
             await job.take()
         except Conflict:
             raise Replaced(0) from None
         finally:
-            job.given_by = None
+            job.given_by = job.handed = None
+        return web.Response(status=204)
+
+    async def _post_look(self, request: web.Request) -> web.Response:
+        """Looks at a job at once, whose holder says that its phase is another one."""
+        await (await self.followed(job_in(request))).job.refresh()
         return web.Response(status=204)
 
     async def _post_take(self, request: web.Request) -> web.Response:
@@ -901,6 +992,11 @@ class Plane:
             generation = member(given, "generation", range(1, 1 << 64))
         made = await self.call(job, Commit(member(given, "term", range(1 << 64)), generation))
         return told(made, lambda committed: answer_of({"generation": committed}))
+
+
+async def say_version(_: web.Request, answer: web.StreamResponse) -> None:
+    """Says of which version an answer is."""
+    answer.headers.update(versions.SAYS)
 
 
 def task_in(request: web.Request, given: dict[str, Any]) -> int:

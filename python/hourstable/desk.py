@@ -10,6 +10,7 @@ from urllib.parse import urlencode
 
 import aiohttp
 
+from hourstable import versions
 from hourstable.asked import Planes
 from hourstable.calls import HOLDER, READING, Troubles, Wrong, is_reading
 from hourstable.calls import Unreachable as NoAnswer
@@ -128,7 +129,7 @@ class HttpDesk:
         tls: ssl.SSLContext | None = None, transport: Transport | None = None, system: System = SYSTEM,
     ) -> None:
         self._urls, self._tickets = [url.rstrip("/") for url in urls], tickets
-        self._headers = {"Content-Type": "application/json"}
+        self._headers = {"Content-Type": "application/json", **versions.SAYS}
         if secret:
             self._headers["Authorization"] = f"Bearer {secret}"
         self._own = Http(tls)

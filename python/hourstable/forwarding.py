@@ -5,6 +5,7 @@ there. One whose store fails asks the others. A call that was handed on is not h
 """
 
 import asyncio
+import json
 import logging
 from collections.abc import Callable, Coroutine, Mapping
 from typing import Any, NamedTuple
@@ -13,11 +14,13 @@ import aiohttp
 from aiohttp import web
 
 from hourstable import tickets as ticketing
+from hourstable import versions
 from hourstable.access import FORWARDED as FOR_WHOM
 from hourstable.access import caller_in
 from hourstable.answers import HOLDER, KEY, READING
 from hourstable.callers import EVERYBODY
 from hourstable.failures import Failures
+from hourstable.handed import Handed
 from hourstable.jobs import Job
 from hourstable.peers import Beat, Heard, Peers
 from hourstable.request_ids import HEADER as REQUEST
@@ -28,7 +31,8 @@ from hourstable.waiting import unless, within
 HEADER = "Hourstable-Forwarded"  # the process of the plane that hands a call on
 PASSED = ("Content-Type", KEY, REQUEST)  # headers of a request that go on with it
 RETURNED = ("Content-Type", "Retry-After", READING)  # those of its answer that come back
-HAD_TIME = 0.6  # of the time after which planes take over: for a call, and for two beats
+MOST_HANDED = 1_000_000  # bytes of a table with its rows: less than a plane takes by default
+AGAIN = 0.15  # of the time after which planes take over: tasks that are turned away for so long find no other plane
 NOT_DONE = (401, 403, 500, 502, 503, 504)  # statuses of a plane that did not do a call
 
 log = logging.getLogger("hourstable.forwarding")
@@ -109,18 +113,19 @@ class Forwarding:
         return self._is_out_of_reach(job, beat)
 
     def _is_out_of_reach(self, job: Job, beat: Beat) -> bool:
-        """Whether the holder is silent for so long, so that tasks could not be handed on, and fewer tasks asked it
-        than this plane, or lately none did. A job that has just moved does not come back for that."""
+        """Whether the holder is silent for so long, so that tasks were turned away again and again, and fewer tasks
+        asked it than were turned away, or none since it is silent."""
         assert job.policy is not None and job.holder is not None
         now, standby = self._now(), self._peers.standby
         since = max(self._silent.get(job.holder, now), self._peers.steady_since)
         first, last = self._missed.get(job.name, (now, now - 2 * standby))
-        if self._peers.is_cut_off() or now - last > standby or now - since < standby:
+        is_found = now - last > standby or last - first < AGAIN * standby  # by tasks that were turned away
+        if is_found or self._peers.is_cut_off() or now - since < standby:
             return False
-        mine, theirs = self.heard(job), beat.heard.get(job.name, Heard(0, job.policy.guard))
-        had_time = now - first >= HAD_TIME * standby  # a task that reaches the holder has asked it by now
-        is_deaf = had_time and theirs.ago >= standby and now - job.holder_since > job.policy.guard / 1000
-        return mine.tasks > 0 and (theirs.tasks < mine.tasks or is_deaf)
+        turned_away = sum(at >= since for at in self._heard.get(job.name, {}).values())
+        theirs = beat.heard.get(job.name, Heard(0, job.policy.guard))
+        silent = self._peers.told_at(job.holder) - since - standby / 2  # so old is its beat, and more
+        return turned_away > 0 and (theirs.tasks < turned_away or theirs.ago >= max(standby, silent))
 
     # Calls that are handed on. -------------------------------------------------------------------
 
@@ -141,8 +146,6 @@ class Forwarding:
                 self._missed.pop(job.name, None)
                 beat = self._peers.of(process)
                 return _answer(made, beat.address if beat is not None else "")
-            if is_missing:
-                self._miss(job)
         return None
 
     def _miss(self, job: Job) -> None:
@@ -167,13 +170,23 @@ class Forwarding:
         asked = Carried(EVERYBODY.packed(), "", "GET", "/healthz", {}, b"", False)
         await asyncio.gather(*(self._fetch(it, asked, self._peers.standby / 2) for it in self._peers.others()))
 
-    async def give(self, job: Job, process: int, seconds: float) -> bool:
-        """Lets another plane take a job that this one gave away, and returns whether it did."""
-        body = b'{"process":%d}' % self._peers.process
+    async def give(self, job: Job, process: int, seconds: float, handed: Handed | None) -> bool:
+        """Lets another plane take a job that this one gave away, with its rows if they are told. Returns whether it
+        did."""
+        told: dict[str, Any] = {"process": self._peers.process}
+        body = json.dumps(told if handed is None else {**told, "table": handed.value()}).encode()
+        if len(body) > MOST_HANDED:
+            body = json.dumps(told).encode()
         path, headers = f"/jobs/{job.name}/hold", {"Content-Type": "application/json"}
         asked = Carried(EVERYBODY.packed(), "", "POST", path, headers, body, False)
         made = await self._fetch(process, asked, seconds)
         return made is not None and made.status == 204
+
+    async def tell(self, job: Job) -> None:
+        """Lets the other planes look at a job whose phase is another one now. Who does not hear it sees it later."""
+        path, headers = f"/jobs/{job.name}/look", {"Content-Type": "application/json"}
+        asked = Carried(EVERYBODY.packed(), "", "POST", path, headers, b"{}", False)
+        await asyncio.gather(*(self._fetch(it, asked, self._peers.standby) for it in self._peers.others()))
 
     async def _fetch(
         self, process: int, asked: Carried, seconds: float, until: Coroutine[Any, Any, None] | None = None
@@ -181,7 +194,7 @@ class Forwarding:
         """Returns the answer of a plane, None if there is none in these seconds, or before something is done."""
         beat, begun = self._peers.of(process), self._now()
         address = beat.address if beat is not None else ""
-        headers = {**asked.headers_by(self._secret()), HEADER: str(self._peers.process)}
+        headers = {**versions.SAYS, **asked.headers_by(self._secret()), HEADER: str(self._peers.process)}
         try:
             headers[ticketing.HEADER] = str(self._tickets.draw())
         except (OSError, OverflowError) as why:  # of this plane alone

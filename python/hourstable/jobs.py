@@ -15,30 +15,35 @@ import json
 import logging
 import os
 from collections import OrderedDict, deque
-from collections.abc import Awaitable, Callable, Collection, Mapping, Sequence
+from collections.abc import Awaitable, Callable, Collection, Iterable, Mapping, Sequence
 from contextlib import suppress
 from dataclasses import dataclass, field
 from functools import partial
 from pathlib import Path
-from typing import Any, Generic, NamedTuple, TypeVar
+from typing import Any, Generic, NamedTuple, NoReturn, TypeVar
 
 from hourstable import library, logs
 from hourstable.clock import JobClock
+from hourstable.handed import Handed, Start, Step, Trail, rows_of
 from hourstable.kept_log import KeptLog
 from hourstable.library import CALLS, LoggedCall, Policy, Refused, Table, log_line
 from hourstable.rights import (
-    ENDED_JOB, ENDING, MOST_EPOCH, SECRET, JobEnds, NotAdmitted, Rights, WrongKey,
+    ENDED_JOB, ENDING, MOST_EPOCH, SECRET, WENT_BACK, Asked, JobEnds, NotAdmitted, Rights, WentBack, WrongKey,
 )
 from hourstable.standstill import Standstill
-from hourstable.store import Conflict, Damaged, Holding, Life, NoSuchJob, Store, Stored, StoreFailed
+from hourstable.store import Conflict, Damaged, Holding, Life, NoSuchJob, Seen, Store, Stored, StoreFailed
 from hourstable.system import SYSTEM, System, make_folder
-from hourstable.table_calls import Call, Free, Grant, Malformed, numbers_of, term_in, value_in
+from hourstable.table_calls import (
+    Call, Free, Grant, LetIn, Malformed, deadline_in, granted_in, last_in, numbers_of, term_in, value_in,
+)
 from hourstable.tickets import Tickets, process_of
+from hourstable.versions import ROWS
 
 log = logging.getLogger("hourstable.jobs")
 T = TypeVar("T")
 SPARE = 5  # of a guard term, for which a favoured life alone is let in after the rows have ended
 MOST_TOGETHER = 256  # calls that are stored by one write
+TRIES_TO_STOP = 20  # of a compare-and-set, while another plane goes on
 WORDS = ("skew", "guard", "bridge", "job", "numbers")
 
 
@@ -70,24 +75,6 @@ def policy_of(given: object) -> tuple[Policy, dict[str, Any]]:
 def is_number(value: object) -> bool:
     """Whether a JSON value is a whole number of 64 bits."""
     return isinstance(value, int) and not isinstance(value, bool) and 0 <= value < 1 << 64
-
-
-LAST, DEADLINE = b'"last":"', b'"deadline":"'  # in kept values, which have no such names in their assignments
-
-
-def last_in(kept: bytes) -> int:
-    """Returns the last reading of kept values."""
-    return _number_after(LAST, kept)
-
-
-def deadline_in(kept: bytes) -> int:
-    """Returns the greatest deadline of kept values."""
-    return _number_after(DEADLINE, kept)
-
-
-def _number_after(name: bytes, kept: bytes) -> int:
-    at = kept.rindex(name) + len(name)
-    return int(kept[at:kept.index(b'"', at)])
 
 
 class Row(NamedTuple):
@@ -135,13 +122,31 @@ class Held:
     holder: str  # the incarnation in the row
     rights: Rights
     unknown: dict[int, int]  # tasks, and the readings until which leases may last whose rows the table has not
+    coming: dict[int, int] = field(default_factory=dict)  # tasks whose life has no lease yet, and until when it may
+    trail: Trail | None = None  # from what the table is made again, if another plane may take it
+
+    def granted(self) -> int:
+        """Returns the greatest number that a grant can have which was answered."""
+        return granted_in(self.saved)
 
     def ends_of(self, task: int, at: int) -> int:
-        """Returns the reading at which no lease of a task lasts any more."""
+        """Returns the reading at which no lease of a task lasts any more, and no life that was let in gets one."""
         unknown = self.unknown.get(task, 0)
         if at < unknown:
             return max(unknown, self.rights.seat(task).deadline)
-        return max((row.table_ends for row in self.table.rows() if row.task == task), default=0)
+        rows = (row.table_ends for row in self.table.rows() if row.task == task)
+        return max(rows, default=self.coming.get(task, 0))
+
+    def let_in(self, asked: Asked, until: int) -> None:
+        """Lets a life in that has no lease yet, and others of its task no earlier than at a reading."""
+        self.rights.admit(asked)
+        self.rights.reach(asked.task, until)
+        self.coming[asked.task] = until
+
+    def grant(self, asked: Asked) -> None:
+        """Lets a life in that was given a lease."""
+        self.rights.admit(asked)
+        self.coming.pop(asked.task, None)
 
     def take_grants(self, tasks: Collection[int]) -> None:
         """Takes into the rights until when the table granted leases to tasks."""
@@ -176,7 +181,7 @@ class Waiting(NamedTuple):
 
 
 class Played(NamedTuple):
-    """A call that the table has, and the store and the log have not."""
+    """A call that the table has, and the store and the log have not. One that the table is not asked has no line."""
 
     waiting: Waiting
     made: Made[Any]
@@ -198,6 +203,8 @@ class Settings:
     system: System = SYSTEM
     keep_logs: int | None = None  # days for which files of logs are kept; None for ever
     incarnation: str = ""  # of the plane, which no other start of one has; drawn if it is not given
+    needs_keys: bool = False  # whether lives get no lease that show no key, as those of versions up to 1.0
+    row_form: int = ROWS  # the newest form of a row that is read; a lower one stands for an older version
 
     def __post_init__(self) -> None:
         self.incarnation = self.incarnation or f"{self.system.random().getrandbits(64):016x}"
@@ -225,18 +232,36 @@ class Counters:
         """Something failed that nobody expected."""
 
 
+class Others:
+    """What a job asks about the other planes of its store. As it is here, there are none."""
+
+    def may_take(self, job: "Job") -> bool:
+        """Whether this plane is to take a job that another one holds."""
+        return job.stands_still()
+
+    def told(self, job: str) -> Iterable[Seen]:
+        """Returns the versions of the row of a job that other planes know."""
+        return ()
+
+    def reads(self, own: int) -> int:
+        """Returns the newest form of a row that all planes read which beat, this one up to its own."""
+        return own
+
+
 class Job:
     """A job of the plane. All of it runs in one event loop."""
 
     def __init__(
         self, name: str, store: Store, settings: Settings, tickets: Tickets, counters: Counters,
-        may_take: "Callable[[Job], bool] | None" = None,
+        others: Others | None = None,
     ) -> None:
         self.name, self.settings, self.tickets = name, settings, tickets
-        self._may_take = may_take or Job.stands_still
+        self._others = others or Others()
+        self.newest = Seen(0, "")  # the greatest version of the row that this plane wrote or read
+        self._is_compared = False  # whether the row was compared with the log of this plane
         self.holder: int | None = None  # the process of the plane that wrote the row last, None if none did
-        self.holder_since = settings.system.monotonic()  # when that was seen first
         self.given_by: int | None = None  # the process of a plane that gives this one the job
+        self.handed: Handed | None = None  # the table as that plane tells it
         self.is_given = False  # whether this plane gave the job away
         self._store, self._counters = store, counters
         self._now = settings.system.monotonic
@@ -302,7 +327,7 @@ class Job:
                 self._show(await self._loaded())
 
     async def _loaded(self) -> Stored:
-        begun = self._now()
+        begun, told = self._now(), list(self._others.told(self.name))  # before it is read
         stored = await self.ask("load", self._store.load, self.name)
         if stored is None:
             raise NoSuchJob(self.name)
@@ -312,7 +337,67 @@ class Job:
             policy, members = self._policy_in(stored)
             self._log = self._log_of(logs.job_line(members))
             self.policy, self.members = policy, members
+        await self._compare(stored, told)
         return stored
+
+    # A store that went back ------------------------------------------------------------------
+
+    async def _compare(self, stored: Stored, told: Sequence[Seen]) -> None:
+        """Raises WentBack if the store has less than this plane or another one wrote, or than is in the log of this
+        one, or if that was found before. It is stored, so that no plane does a call of the job."""
+        rights = self._rights_in(stored)
+        if rights.state == WENT_BACK:
+            raise WentBack(self.name, "a plane or a task knew more than it has")
+        mark = rights.mark()
+        version = max([it.version for it in (self.newest, *told) if it.mark == mark], default=0)
+        if stored.version < version:
+            await self._stop(stored, rights, f"it has version {stored.version} of the row, and had {version}")
+        if not self._is_compared:
+            assert self._log is not None
+            reading, last = await asyncio.to_thread(self._log.last_reading), self._last_of(stored)
+            if last < reading:
+                await self._stop(stored, rights, f"its last reading is {last}, and the plane logged {reading}")
+            self._is_compared = True
+        self.newest = Seen(stored.version, mark)
+
+    def _last_of(self, stored: Stored) -> int:
+        try:
+            return last_in(stored.kept)
+        except ValueError as error:
+            raise Damaged(f"what is stored of {self.name} has no last reading") from error
+
+    async def _stop(self, stored: Stored, rights: Rights, why: str) -> NoReturn:
+        """Stores that the store went back, as far as it takes that. Raises WentBack."""
+        mark = rights.mark()
+        for _ in range(TRIES_TO_STOP):
+            rights.state = WENT_BACK
+            row = Row.read(stored.line) if stored.line is not None else None
+            try:
+                await self._write((stored.version, stored.holder), stored.kept, row, rights)
+                break
+            except Conflict:  # a plane that knows nothing of it wrote
+                found: Stored | None = await self.ask("load", self._store.load, self.name)
+                stored = found or stored
+                rights = self._rights_in(stored) if stored.rights else rights
+                if rights.mark() != mark:
+                    break  # it was recovered
+            except StoreFailed:
+                break
+        raise WentBack(self.name, why)
+
+    async def _stop_as(self, why: str) -> NoReturn:
+        """Drops the table, and stores that the store went back. Raises WentBack."""
+        async with self._lock:
+            self.drop()
+            stored = await self._loaded()
+            await self._stop(stored, self._rights_in(stored), why)
+
+    async def _stop_held(self, held: Held, why: WentBack) -> None:
+        """Stores that the store went back, as a caller showed, and drops the table."""
+        row = Row(max(0, held.last - held.at), [held.line]) if held.line is not None else None
+        held.rights.state = WENT_BACK
+        with suppress(StoreFailed, Conflict, NoSuchJob):
+            await self._write((held.version, held.holder), held.saved, row, held.rights)
 
     def _log_of(self, job: str) -> KeptLog | logs.NoLog:
         settings = self.settings
@@ -343,8 +428,7 @@ class Job:
             raise Damaged(f"the line that is stored of {self.name} cannot be read: {error!r}") from error
 
     def _hold_by(self, holder: int | None) -> None:
-        if holder != self.holder:
-            self.holder, self.holder_since = holder, self._now()
+        self.holder = holder
 
     async def refresh(self) -> None:
         """Looks whether another plane has written, and reads the lives of tasks. Calls do not wait for it."""
@@ -412,6 +496,19 @@ class Job:
 
         await self._change_rights(begin)
 
+    def is_too_new(self) -> bool:
+        """Whether this plane holds the job, and another one beats that does not read its row."""
+        newest = self._others.reads(self.settings.row_form)
+        return self._held is not None and self._held.rights.form() > newest
+
+    async def fit(self) -> None:
+        """Writes the row once more, in a form that all planes read which beat."""
+
+        def touch(held: Held, _: int) -> None:
+            held.rights.is_changed |= self.is_too_new()
+
+        await self._change_rights(touch)
+
     async def _change_rights(self, change: Callable[[Held, int], T]) -> T:
         """Changes who may act, and stores that with the last line once more. Raises Replaced, StoreFailed and
         NoSuchJob."""
@@ -452,9 +549,17 @@ class Job:
             with suppress(Replaced):
                 async with self._lock:
                     await self._hold()
+        known = self.lives.get(task, Life(0, 0)).life  # before it is asked: what is given out later is above it
         life = await self.ask("life", self._store.raise_life, self.name, task)
+        if life <= known:
+            await self._stop_as(f"it gave out life {life} of task {task}, and life {known} before")
         self.know({task: Life(life, 0)})
         return life, self.rights.key(task, life) if self.rights.secret else ""
+
+    def need_key(self, task: int, life: int, key: str) -> None:
+        """Raises WrongKey if there is no key and this plane takes none of those who show none."""
+        if self.settings.needs_keys and not key:
+            raise WrongKey(task, life)
 
     @property
     def rights(self) -> Rights:
@@ -472,7 +577,7 @@ class Job:
         with self._restored(stored) as table:
             self._show_table(table)
         self.term = term_in(stored.kept)
-        self._rights = Rights.read(self.name, stored.rights) if stored.rights else Rights(b"")
+        self._rights = self._rights_in(stored)
 
     def _restored(self, stored: Stored) -> Table:
         """Returns the table of what is stored, as a restart leaves it."""
@@ -558,7 +663,7 @@ class Job:
         if not self.settings.shared or stored.line is None:
             return
         is_own = self.holder == self.settings.process and not self.is_given
-        if not is_own and not self._may_take(self):
+        if not is_own and not self._others.may_take(self):
             raise Replaced(0)
 
     def stands_still(self) -> bool:
@@ -570,7 +675,7 @@ class Job:
         if self._held is not None or not self.settings.shared or self.holder is None:
             return False
         is_own = self.holder == self.settings.process and not self.is_given
-        return not is_own and not self._may_take(self)
+        return not is_own and not self._others.may_take(self)
 
     async def take(self) -> None:
         """Takes the table, if this plane may. Raises Replaced, Conflict and what a store raises."""
@@ -581,14 +686,26 @@ class Job:
                 self.drop()
                 raise
 
-    async def give_away(self) -> None:
+    async def give_away(self) -> Handed | None:
         """Drops the table after the calls that wait, for another plane to take it: this one takes it no more until
-        `keep` is called."""
+        `keep` is called. Returns the table with its rows, None if that cannot be told."""
         await self.finish()
         await self.settle()
         async with self._lock:
             self.is_given = True
+            handed = self._to_hand()
             self.drop()
+            return handed
+
+    def _to_hand(self) -> Handed | None:
+        held = self._held
+        if held is None or held.trail is None or self._log is None or self._log.is_stopped:
+            return None  # where lines are missing, a table is restored
+        start, table = held.trail.told(), held.table
+        if start is None:
+            return None
+        known = self.grace, held.unknown, held.coming
+        return Handed(held.version, held.holder, start, table.kept(), rows_of(table), *known)
 
     def keep(self) -> None:
         """Takes back that the job was given away."""
@@ -601,6 +718,9 @@ class Job:
         rights = await self._rights_of(stored, row)
         last = last_in(stored.kept)
         clock = JobClock(last, row.ahead if row else 0, self.settings.local)
+        taken = self._taken(stored)
+        if taken is not None:
+            return await self._go_on(stored, rights, clock, taken)
         version, holder, line = stored.version, stored.holder, None
         if row is not None:
             await clock.wait()
@@ -612,12 +732,51 @@ class Job:
         self._seen.forget()
         unknown = {task: seat.deadline for task, seat in rights.seats.items()}
         table = self._restored(stored)
-        return Held(table, clock, version, stored.kept, last, last, last, line, holder, rights, unknown)
+        trail = Trail(Start(stored.kept)) if self.settings.shared else None
+        return Held(table, clock, version, stored.kept, last, last, last, line, holder, rights, unknown, trail=trail)
+
+    def _taken(self, stored: Stored) -> Table | None:
+        """Returns the table that another plane told with its rows, if it is that of what is stored."""
+        handed = self.handed
+        assert self.policy is not None
+        is_of_row = handed is not None and (handed.version, handed.holder) == (stored.version, stored.holder)
+        if handed is None or not is_of_row or stored.line is None:
+            return None
+        table = handed.table(self.name, self.policy)
+        if table is not None and table.save(stored.kept, 0, 0) is not None:  # more than is stored
+            table.close()
+            return None
+        return table
+
+    async def _go_on(self, stored: Stored, rights: Rights, clock: JobClock, table: Table) -> Held:
+        """Goes on with a table that has its rows. Its first call here, for its phase, is written to the store."""
+        handed, last = self.handed, last_in(stored.kept)
+        assert handed is not None and stored.line is not None
+        try:
+            await clock.wait()
+            logged = LoggedCall(self.tickets.draw(), CALLS["phase"], phase=table.phase())
+            line = log_line(self.name, logged, b"")
+            version = await self._write_first(stored, Row.read(stored.line), rights, line)
+        except BaseException:
+            table.close()
+            raise
+        self._seen.forget()
+        self.grace = handed.grace
+        log.info("%s goes on with its %d rows", self.name, len(handed.rows))
+        known, holder = (dict(handed.unknown), dict(handed.coming), Trail(handed.start)), self.settings.incarnation
+        accepted = last_in(handed.kept)
+        return Held(table, clock, version, stored.kept, last, accepted, last, line, holder, rights, *known)
+
+    def _rights_in(self, stored: Stored) -> Rights:
+        """Returns who may act, as it is stored. Raises Damaged, also if this plane does not read the form of the
+        row."""
+        newest = self.settings.row_form
+        return Rights.read(self.name, stored.rights, newest) if stored.rights else Rights(b"")
 
     async def _rights_of(self, stored: Stored, row: Row | None) -> Rights:
         """Returns who may act. If a version up to 1.0 wrote the row last, the lives that were given out count."""
         ticket = row.ticket() if row is not None else None
-        rights = Rights.read(self.name, stored.rights) if stored.rights else Rights(b"")
+        rights = self._rights_in(stored)
         if not rights.secret:
             rights.secret = self.settings.system.secret(SECRET)
         if not rights.epoch:
@@ -629,29 +788,37 @@ class Job:
         return rights
 
     async def _write_restore(self, stored: Stored, row: Row, rights: Rights) -> tuple[int, str]:
-        """Logs the last calls that are stored, if that was not done, and stores and logs that the
-        table is restored. Returns the new version and the line."""
+        """Stores and logs that the table is restored. Returns the new version and the line."""
+        line = log_line(self.name, LoggedCall(self.tickets.draw(), CALLS["restore"]), stored.kept)
+        version = await self._write_first(stored, row, rights, line)
+        self.grace = deadline_in(stored.kept)
+        self._counters.restored(self.name)
+        return version, line
+
+    async def _write_first(self, stored: Stored, row: Row, rights: Rights, line: str) -> int:
+        """Logs the last calls that are stored, if that was not done, and stores and logs the first line of this
+        plane. Returns the new version."""
         assert self._log is not None
         lacking = await asyncio.to_thread(self._log.lacking, row.lines)  # which reads a day or two of lines
         if lacking:
             self._log.append(*lacking)
-        line = log_line(self.name, LoggedCall(self.tickets.draw(), CALLS["restore"]), stored.kept)
         written = Row(row.ahead, [*self._log.gap(), line])
         version = await self._write((stored.version, stored.holder), stored.kept, written, rights)
         self._hold_by(self.settings.process)
         self.given_by, self.is_given = None, False
         self._log.append(line)
-        self.grace = int(json.loads(stored.kept)["value"]["deadline"])
-        self._counters.restored(self.name)
-        return version, line
+        return version
 
     async def _write(self, before: tuple[int, str], kept: bytes, row: Row | None, rights: Rights) -> int:
-        """Writes the row in place of that of a version and a holder, and returns the new version."""
+        """Writes the row in place of that of a version and a holder, in a form that all planes read which beat, and
+        returns the new version."""
         version, holder = before
+        rights.fit(self._others.reads(self.settings.row_form))
         holding = Holding(holder, self.settings.incarnation, rights.text(row.ticket() if row else None))
         given = self.name, version, kept, row.text() if row else None, holding
         written = await self.ask("swap", self._store.swap, *given)
         rights.is_changed = False
+        self.newest = Seen(written, rights.mark())
         return written
 
     # Calls of the table ----------------------------------------------------------------------
@@ -733,6 +900,10 @@ class Job:
             for one in together:
                 one.fail(why)
             return
+        except WentBack as why:
+            if self._held is not None:
+                await self._stop_held(self._held, why)
+            error = why
         except Exception as why:
             error = why
             if isinstance(why, StoreFailed) and self._now() - begun > self._store.deadline / 2:
@@ -788,14 +959,26 @@ class Job:
             except (Malformed, WrongKey, JobEnds) as error:
                 one.fail(error)
                 continue
+            if isinstance(call, LetIn) and self._gives_leases(held, at):
+                assert self.policy is not None
+                held.let_in(call.asked, at + self.policy.guard)
+                played.append(Played(one, Made(call.told(held), None, at), ""))
+                continue
             made = self._play_one(held, one, at)
             if made is not None:
                 played.append(made)
                 if isinstance(call, Grant) and made.made.refusal is None:
-                    held.rights.admit(call.asked)
+                    held.grant(call.asked)
                     granted.add(call.task)
         held.take_grants(granted)
         return played, denied
+
+    @staticmethod
+    def _gives_leases(held: Held, at: int) -> bool:
+        """Whether the table gives leases, so that a reading can be stored as that of a grant: there is an assignment,
+        and numbers are left."""
+        kept = held.table.save(b"", 1, at - held.accepted + 1)
+        return kept is not None and last_in(kept) > at
 
     def _play_one(self, held: Held, one: Waiting, at: int) -> Played | None:
         """Plays a call on the table. One that the library cannot read is answered."""
@@ -817,26 +1000,32 @@ class Job:
     async def _keep(self, held: Held, played: list[Played], at: int) -> None:
         """Stores calls that were played, logs them, and answers them."""
         assert self._log is not None
-        lines = [one.line for one in played]
-        is_done = any(one.made.refusal is None for one in played)
+        lines = [one.line for one in played if one.line]
+        is_done = any(one.line and one.made.refusal is None for one in played)
         kept = self._to_store(held, at, is_done)
         if kept is None and held.rights.is_changed:
-            kept = held.table.save(b"", *self._ahead()) or held.table.kept()
+            grants, ticks = self._ahead()
+            kept = held.table.save(b"", grants, max(ticks, at - held.accepted)) or held.table.kept()
         if kept is not None:
             await self._swap(held, kept, at, lines)
         is_used = at <= held.last  # else all were refused, and the reading is not stored
         if is_used:
-            self._log.append(*lines)
-            held.line, held.at = lines[-1], at
+            if lines:  # a life that is only let in has none
+                self._log.append(*lines)
+            held.line, held.at = lines[-1] if lines else held.line, at
             if kept is None and self._log.is_stopped:  # it is just now
                 await self._swap(held, self._to_store(held, at, is_done) or held.saved, at, lines)
+        if held.trail is not None and is_done:
+            accepted = [one.waiting.call for one in played if one.line and one.made.refusal is None]
+            held.trail.add([Step.of(call, at) for call in accepted], held.table)
         for waiting, made, _ in played:
             if made.refusal is None:
                 waiting.call.done(self, made.result)
         self._show_table(held.table)
-        for waiting, made, _ in played:
+        for waiting, made, line in played:
             refused = made.refusal.name if made.refusal else None
-            self._counters.made(self.name, waiting.call.do, refused)
+            if line:
+                self._counters.made(self.name, waiting.call.do, refused)
             waiting.tell(made if is_used else made._replace(at=None))
 
     def _to_store(self, held: Held, at: int, is_done: bool) -> bytes | None:
@@ -872,7 +1061,8 @@ class Job:
         if not self.settings.shared:  # tasks that have leases may renew them before the next write
             for task in {row.task for row in held.table.rows()}:
                 held.rights.reach(task, deadline_in(kept))
-        row = Row(max(0, last - at), [*self._log.gap(), *lines])
+        stored = [*self._log.gap(), *(lines or [held.line or ""])]
+        row = Row(max(0, last - at), stored)
         held.version = await self._write((held.version, held.holder), kept, row, held.rights)
         held.saved, held.last, held.holder = kept, last, self.settings.incarnation
         self._hold_by(self.settings.process)

@@ -76,6 +76,10 @@ class KeptLog:
         """Returns those of the lines that are not in the log, as `Log.lacking` does, or all while it is stopped."""
         return list(lines) if self._log is None else self._log.lacking(lines)
 
+    def last_reading(self) -> int:
+        """Returns the greatest reading of the last calls of the log, 0 if it is stopped."""
+        return 0 if self._log is None else self._log.last_reading()
+
     def is_ready(self) -> bool:
         """Whether a log that has stopped may go on, which it then does with `go_on`. It looks once in a while."""
         if self._is_ready or self._now() - self._tried < AGAIN:

@@ -11,7 +11,7 @@ from hourstable.jobs import Job, Made
 from hourstable.library import GrantRead, JobTerm, read_grant
 from hourstable.logs import told_refusal
 from hourstable.metrics import word_of
-from hourstable.table_calls import Call, Commit, Free, Grant, Propose, Renew, Take, value_in
+from hourstable.table_calls import Call, Commit, Free, Grant, LetIn, Propose, Renew, Take, value_in
 
 WINDOW = 600_000  # ticks for which what has ended is remembered
 MOST = 4096  # of each sort that are remembered
@@ -101,6 +101,8 @@ class Lanes:
             self.events.append(Event(at, call.do, told_refusal(call.do, str(made.refusal))))
             return
         result: Any = made.result
+        if isinstance(call, LetIn):
+            return
         if isinstance(call, Grant):
             self._granted(job.name, result, at)
         elif isinstance(call, Free):

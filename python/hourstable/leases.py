@@ -6,6 +6,7 @@ ticket, never an older one.
 """
 
 import json
+import struct
 from collections.abc import Callable, Mapping
 from functools import partial
 from typing import Any, NamedTuple, NoReturn, TypeVar
@@ -18,13 +19,19 @@ from .ranges import Ranges, minus, ranges_of, union
 from .tickets import Tickets
 
 Made = TypeVar("Made")
-Entered = tuple[int, int, int]  # the slice key and the position of a handle, and the generation of its lease
+Entered = tuple[int, int, int, int]  # slice key and position of a handle, generation of its lease, greatest one
 KINDS = ("guard", "bridge")
+TOKEN = struct.Struct(">IQI")
 
 
 class ClockBehind(Exception):
     """The clock of the task gives no value: it has heard no answer of the table for too long, or
     none at all. Until it hears one, the task serves nothing."""
+
+
+class NoToken(Exception):
+    """The job gives no fencing tokens: `many-owners` if a slice of it may have more than one owner, `no-epoch` if the
+    control plane that let the life in is of a version up to 1.0."""
 
 
 class Held(NamedTuple):
@@ -71,11 +78,13 @@ class Leases:
         local_clock: Callable[[], int],
         tickets: Tickets,
         log: KeptLog | NoLog,
+        epoch: int = 0,
     ) -> None:
-        self.job, self.task, self.life = job, task, life
+        self.job, self.task, self.life, self.epoch = job, task, life, epoch
         self.clock, self.local_clock = clock, local_clock
         self.started = False
         self.held: dict[str, Held] = {}
+        self.heard = {"number": 0, "generation": 0}  # the greatest that it heard
         self._tickets, self._log = tickets, log
         self._receipt = Receipt()
         self._slicelet = Slicelet.resume(job, task, last)
@@ -138,6 +147,7 @@ class Leases:
                 self._log.append(receipt.line)
         if heard is not None:
             self.held[lease.kind] = lease
+            self.heard = {name: max(greatest, getattr(lease, name)) for name, greatest in self.heard.items()}
         return heard is not None
 
     def release(self, kind: str) -> bytes:
@@ -158,7 +168,13 @@ class Leases:
         if code:
             self._raise(code)
         entry = door.entry
-        return entry.slice_key, entry.position, entry.generation
+        return entry.slice_key, entry.position, entry.generation, entry.covering
+
+    def token(self, entered: Entered) -> bytes:
+        """Returns the fencing token that the task had at an entry. Raises NoToken if the epoch is not known."""
+        if not self.epoch:
+            raise NoToken("no-epoch")
+        return TOKEN.pack(self.epoch, entered[3], self.life)
 
     def check(self, entered: Entered, is_logged: bool = True) -> bool:
         """Whether the task has held the key of a handle without a break since it was taken, and may serve it now. The
@@ -191,6 +207,14 @@ class Leases:
             if at < lease.until:
                 made = union(made, lease.ranges)
         return made
+
+    def may_give_up(self, kind: str) -> bool:
+        """Whether the lease of a kind may be given up before others, so that no token falls: a guard lease always, a
+        bridge lease while a guard lease of its generation or a later one is held."""
+        guard, bridge = self.held.get("guard"), self.held.get("bridge")
+        if kind == "guard" or bridge is None:
+            return True
+        return guard is not None and bridge.generation <= guard.generation
 
     def lost_without(self, kind: str) -> Ranges:
         """Returns the keys of the lease of a kind that no other held lease has."""

@@ -26,7 +26,7 @@ CODES = {
         " STALE_BASE PENDING NOTHING_PENDING TOO_MANY_OWNERS_FOR_JOB GRACE HELD NO_ROW"
         " NO_ASSIGNMENT NUMBERS_SPENT OLD_GENERATION UNKNOWN NOT_ADOPTED NO_TASKS LOADS_LENGTH"
         " LOAD_RANGE SENT_AHEAD NO_SAMPLE TOO_OLD TOO_LARGE NOT_YET OTHER_POLICY NO_TERM TERM_RANGE"
-        " KEPT_GENERATION TOO_MANY_GRANTS DEADLINE_RANGE WEIGHT_RANGE TOTAL_RANGE"
+        " KEPT_GENERATION TOO_MANY_GRANTS DEADLINE_RANGE WEIGHT_RANGE TOTAL_RANGE MANY_OWNERS FENCED"
     ).split())),
     **{-number: name for number, name in enumerate((
         "NO_MEMORY NO_ROOM NOT_JSON VERSION OTHER_TYPE WRONG_FORM PAST_END UNSORTED EMPTY NO_SLICES"
@@ -35,6 +35,7 @@ CODES = {
     ).split(), 1)},
     -20: "OTHER_JOB",
 }  # no code is -19
+TOKEN_LENGTH = 16
 CARRIED = {
     "NOT_OWNED": ["generation"], "OLD": ["number"], "JOB_HELD": ["until"], "NOT_HOLDER": ["number"],
     "STALE_BASE": ["generation"], "GRACE": ["until"], "HELD": ["task", "kind", "number"],
@@ -292,6 +293,19 @@ class Receipt(ctypes.Structure):
     line = ""
 
 
+class Token(ctypes.Structure):
+    """A fencing token: the epoch, the generation and the life, in 4, 8 and 4 bytes, each with the high
+    byte first."""
+
+    _fields_ = [("bytes", ctypes.c_uint8 * 16)]
+
+    @classmethod
+    def of(cls, token: bytes) -> Token:
+        if len(token) != TOKEN_LENGTH:
+            raise ValueError(f"a token of {len(token)} bytes is none of {TOKEN_LENGTH}")
+        return cls.from_buffer_copy(token)
+
+
 class LoadRecord(Numbers):
     _fields_ = fields("slice_key weight")
     slice_key: int
@@ -460,6 +474,9 @@ DECLARED: dict[str, list[CType]] = {
     "slicelet_hold": [P(Place), *BYTES, U64, P(KeyHandle), P(Told)],
     "slicelet_serve_at": [P(Place), U64, U64, P(Told)],
     "slicelet_hold_at": [P(Place), U64, U64, P(KeyHandle), P(Told)],
+    "slicelet_token": [P(Place), U64, U32, *BYTES, U64, P(Token)],
+    "slicelet_token_at": [P(Place), U64, U32, U64, U64, P(Token)],
+    "fence_accept": [P(Token), P(Token)],
     "slicelet_check": [P(Place), P(KeyHandle), U64],
     "slicelet_enter": [P(Place), P(TaskClock), U64, *BYTES, P(Block), *OUT],
     "slicelet_enter_at": [P(Place), P(TaskClock), U64, U64, P(Block), *OUT],
@@ -836,6 +853,20 @@ class Slicelet(Standing):
         self.do("hold_at", slice_key, at, ctypes.byref(handle), self.told_by())
         return handle
 
+    def token(self, most: int, epoch: int, key: bytes, at: int) -> bytes:
+        """Returns the fencing token that the task has for a key: 16 bytes, which it sends to a store with
+        each write of the key. `most` is the most owners of a slice by the policy, `epoch` the number of
+        the job among those that wrote to the same store."""
+        token = Token()
+        self.do("token", most, epoch, key, len(key), at, ctypes.byref(token))
+        return bytes(token)
+
+    def token_at(self, most: int, epoch: int, slice_key: int, at: int) -> bytes:
+        """Returns the fencing token for a key by its slice key."""
+        token = Token()
+        self.do("token_at", most, epoch, slice_key, at, ctypes.byref(token))
+        return bytes(token)
+
     def check(self, handle: KeyHandle, at: int) -> None:
         self.do("check", ctypes.byref(handle), at)
 
@@ -995,6 +1026,28 @@ class Door:
         if code == -1:
             raise MemoryError("hourstable")
         return Refused(code, carried_by(name_of(code), self.entry.told()))
+
+
+class Fence:
+    """What a store keeps for one key: the greatest fencing token with which it accepted a write, 16 bytes
+    of zero before the first. It is kept with what was written, in one transaction."""
+
+    def __init__(self, greatest: bytes = bytes(TOKEN_LENGTH)) -> None:
+        self._greatest = Token.of(greatest)
+
+    @property
+    def greatest(self) -> bytes:
+        """The greatest token with which a write was accepted."""
+        return bytes(self._greatest)
+
+    def accept(self, token: bytes) -> bool:
+        """Offers a write with a token, and returns whether it is accepted: then the token is the greatest.
+        A new owner offers its token before it reads: until then a late write of an earlier one may be
+        accepted."""
+        code = library.hs_fence_accept(ctypes.byref(self._greatest), ctypes.byref(Token.of(token)))
+        if name_of(code) != "FENCED":
+            done(code)
+        return bool(code == 0)
 
 
 class Clerk(Standing):

@@ -18,6 +18,7 @@ import os
 import re
 import time
 from collections.abc import Callable, Iterator, Mapping, Sequence
+from contextlib import suppress
 from functools import lru_cache, partial
 from pathlib import Path
 from typing import Any, NamedTuple
@@ -149,6 +150,14 @@ class Log:
         found = {line for path in files for line in _lines_from(path, lines[0].encode())}
         return [line for line in lines if line.encode() not in found]
 
+    def last_reading(self) -> int:
+        """Returns the greatest reading of the last calls of the log, 0 if none has one. It reads the newest files."""
+        for path in reversed(self._files()):
+            readings = [int(call["at"]) for call in _last_calls(path) if "at" in call]
+            if readings:
+                return max(readings)
+        return 0
+
     def close(self) -> None:
         """Closes the file. Nothing is written later."""
         if self._file is not None:
@@ -215,6 +224,10 @@ class NoLog:
     def lacking(self, lines: Sequence[str]) -> list[str]:
         """Returns none: no line is missed."""
         return []
+
+    def last_reading(self) -> int:
+        """Returns 0: nothing is known."""
+        return 0
 
     def gap(self) -> list[str]:
         """Returns none: no line is missed."""
@@ -295,6 +308,21 @@ def _lines_from(path: Path, line: bytes) -> list[bytes]:
                 return file.read().split(b"\n")
             overlap, end = piece[: len(wanted)], start
     return []
+
+
+def _last_calls(path: Path) -> list[dict[str, Any]]:
+    """Returns the last calls of a file, from its last bytes. A line that is torn is none."""
+    with open(path, "rb") as file:
+        start = max(0, os.fstat(file.fileno()).st_size - PIECE)
+        file.seek(start)
+        lines = file.read().split(b"\n")[1 if start else 0:]
+    made = []
+    for line in lines:
+        with suppress(ValueError):
+            call = json.loads(line)
+            if isinstance(call, dict) and "ticket" in call:
+                made.append(call)
+    return made
 
 
 def first_ticket(path: Path) -> int:

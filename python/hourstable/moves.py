@@ -6,6 +6,7 @@ raises is logged and counted, and when its time is over nobody waits for it.
 
 import asyncio
 from collections.abc import Awaitable, Callable
+from contextlib import suppress
 from typing import Protocol
 
 from .ranges import Ranges, holds
@@ -67,6 +68,11 @@ class Moves:
         except TimeoutError:
             late.append("a block")
         return " and ".join(late)
+
+    async def wait_for(self, ranges: Ranges, patience: float) -> None:
+        """Waits until no block is open on slice keys, for at most `patience` seconds."""
+        with suppress(TimeoutError):
+            await within(patience, self._all_left(ranges))
 
     async def _all_left(self, ranges: Ranges) -> None:
         while any(holds(ranges, block.slice_key) for block in self._open):

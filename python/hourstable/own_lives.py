@@ -51,7 +51,7 @@ class OwnLives:
         file = system.open(path, os.O_RDWR | os.O_CREAT | os.O_CLOEXEC, 0o600)
         try:
             fcntl.flock(file, fcntl.LOCK_EX | fcntl.LOCK_NB)
-            status, boot = os.fstat(file), system.boot().decode("ascii", "replace")
+            (device, inode), boot = system.identity(file), system.boot().decode("ascii", "replace")
         except BlockingIOError:
             system.close(file)
             why = f"another process of task {task} runs here: it has locked the file"
@@ -59,7 +59,7 @@ class OwnLives:
         except BaseException:
             system.close(file)
             raise
-        self.place |= {"boot": boot, "device": str(status.st_dev), "inode": str(status.st_ino)}
+        self.place |= {"boot": boot, "device": str(device), "inode": str(inode)}
         return file
 
     def _read(self) -> dict[int, str]:
@@ -109,7 +109,7 @@ class OwnLives:
         return self._keys.get(life, "")
 
     def asking(self, life: int) -> dict[str, Any]:
-        """Returns the members by which a life asks for a lease."""
+        """Returns the members by which a life asks for a lease, or to be let in."""
         if not self.key_of(life):
             return {}
         shown = {str(it): key for it, key in sorted(self._keys.items())[-MOST_KEPT:] if it != life}

@@ -8,9 +8,11 @@ store stands still counts against nobody.
 import asyncio
 import json
 from collections.abc import Callable, Mapping
+from types import MappingProxyType
 from typing import NamedTuple
 
-from hourstable.store import Store, StoreFailed
+from hourstable.store import Seen, Store, StoreFailed
+from hourstable.versions import ROWS, ROWS_BEFORE
 
 VERSION = 1  # of the text of a beat
 PART = 4  # beats in the time after which another plane takes over
@@ -33,11 +35,13 @@ class Beat(NamedTuple):
     heard: Mapping[str, Heard]  # by job
     failed: frozenset[str]  # jobs
     has_ended: bool = False
+    rows: Mapping[str, Seen] = MappingProxyType({})  # by job, the newest version of its row that the plane knows
+    reads: int = ROWS_BEFORE  # the newest form of a row that it reads
 
     def text(self) -> str:
         return json.dumps({
             "version": VERSION, **self._asdict(), "heard": {job: list(it) for job, it in self.heard.items()},
-            "failed": sorted(self.failed),
+            "failed": sorted(self.failed), "rows": {job: list(it) for job, it in self.rows.items()},
         })
 
     @classmethod
@@ -47,19 +51,23 @@ class Beat(NamedTuple):
             given = json.loads(text)
             heard = {str(job): Heard(int(tasks), float(ago)) for job, (tasks, ago) in given["heard"].items()}
             texts = str(given["incarnation"]), str(given["address"])
-            return cls(*texts, int(given["number"]), heard, frozenset(given["failed"]), bool(given["has_ended"]))
+            rows = {str(job): Seen(int(version), str(mark)) for job, (version, mark) in given.get("rows", {}).items()}
+            failed, has_ended = frozenset(map(str, given["failed"])), bool(given["has_ended"])
+            reads = int(given.get("reads", ROWS_BEFORE))
+            return cls(*texts, int(given["number"]), heard, failed, has_ended, rows, reads)
         except (LookupError, TypeError, AttributeError, ValueError) as error:
             raise ValueError(f"the beat of a plane cannot be read: {error!r}") from error
 
 
 class Peers:
     """The planes of a store. `process` is the number of this one, which takes over from one that is silent for
-    `standby` seconds. `now` returns seconds that never fall."""
+    `standby` seconds, and reads rows of forms up to `reads`. `now` returns seconds that never fall."""
 
     def __init__(
-        self, store: Store, process: int, incarnation: str, standby: float, now: Callable[[], float]
+        self, store: Store, process: int, incarnation: str, standby: float, now: Callable[[], float],
+        reads: int = ROWS,
     ) -> None:
-        self.process, self.incarnation, self.standby = process, incarnation, standby
+        self.process, self.incarnation, self.standby, self._reads = process, incarnation, standby, reads
         self.interval = standby / PART
         self.address = ""
         self.known: dict[int, Beat] = {}
@@ -67,6 +75,7 @@ class Peers:
         self._store, self._now = store, now
         self._number = 0
         self._texts: dict[int, str] = {}
+        self._told: dict[int, float] = {}  # planes, and when their beats were read first
         self._still: dict[int, int] = {}  # planes, and how many own beats were written since theirs
         self._written = self.steady_since = now()  # when a beat of this plane was written last, and first in a row
 
@@ -82,10 +91,13 @@ class Peers:
             mend = "give this one a number of its own (--process)"
             raise BlockingIOError(f"another plane beats as process {self.process}: {mend}; it is {after}")
 
-    async def beat(self, heard: Mapping[str, Heard], failed: frozenset[str], has_ended: bool = False) -> None:
+    async def beat(
+        self, heard: Mapping[str, Heard], failed: frozenset[str], has_ended: bool = False,
+        rows: Mapping[str, Seen] = MappingProxyType({}),
+    ) -> None:
         """Writes the beat of this plane, and reads those of the others. Raises StoreFailed."""
         self._number += 1
-        mine = Beat(self.incarnation, self.address, self._number, heard, failed, has_ended)
+        mine = Beat(self.incarnation, self.address, self._number, heard, failed, has_ended, rows, self._reads)
         found = await self._store.beat(self.process, mine.text())
         if self.is_cut_off():
             self.steady_since = self._now()
@@ -95,6 +107,7 @@ class Peers:
             self._still[process] = self._still.get(process, 0) + 1 if is_same else 0
             self._texts[process] = text
             if not is_same:
+                self._told[process] = self._now()
                 self._read(process, text)
 
     def _read(self, process: int, text: str) -> None:
@@ -112,6 +125,21 @@ class Peers:
     def of(self, process: int | None) -> Beat | None:
         """Returns what another plane said last, None if it is not known."""
         return None if process is None or process == self.process else self.known.get(process)
+
+    def told_at(self, process: int) -> float:
+        """Returns when what another plane said last was read first."""
+        return self._told.get(process, 0.0)
+
+    def told(self, job: str) -> list[Seen]:
+        """Returns the versions of the row of a job that other planes know."""
+        return [beat.rows[job] for it, beat in self.known.items() if it != self.process and job in beat.rows]
+
+    def reads(self) -> int:
+        """Returns the newest form of a row that this plane and all others read which beat. One whose beat cannot be
+        read says nothing."""
+        beating = [it for it in self._texts if it != self.process and self._still[it] < PART and not self.is_gone(it)]
+        known = [self.known[it].reads if it in self.known else ROWS_BEFORE for it in beating]
+        return min([self._reads, *known])
 
     def is_gone(self, process: int) -> bool:
         """Whether a plane that was known has ended, or stood still for so long that its jobs are to be taken."""

@@ -47,6 +47,7 @@ class Readiness:
         self.folders: list[Path] = []  # in which logs and state stand
         self.assigner: Assigner | None = None
         self.polls = False
+        self.lacks = ""  # why the store does not let the plane begin
         self._beaten = self._now()
         self._looking = asyncio.Lock()
         self._looked: tuple[float, list[Check]] = -KEPT_FOR, []
@@ -84,6 +85,8 @@ class Readiness:
             return str(error) or type(error).__name__
 
     async def _ask_store(self) -> str:
+        if self.lacks:
+            return f"the plane waits for it since its start: {self.lacks}"
         await self._store.jobs()
         return OK
 

@@ -21,13 +21,15 @@ Members = Mapping[str, Any]
 
 class Granted(NamedTuple):
     """The answer to a call for a lease: the lease of its grant, or the word for why it was refused. Where another
-    life of the task is let in, `admitted` says which, and `after` in how many seconds to ask again."""
+    life of the task is let in, `admitted` says which, and `after` in how many seconds to ask again. A life that was
+    let in without a lease is told the `epoch` of the job."""
 
     answer: Answer
     lease: Held | None
     refused: str
     admitted: int = 0
     after: float = 0.0
+    epoch: int = 0
 
 
 def check_policy(job: str, members: Members) -> Members:
@@ -87,6 +89,22 @@ def granted(job: str, answer: Answer) -> Granted:
     if answer.reading is None:
         raise ValueError("a grant without a reading")
     return Granted(answer, held_in(job, answer.body), "")
+
+
+def let_in(job: str, life: int, answer: Answer) -> Granted:
+    """Returns what POST /jobs/J/grant answers to a life that asks only to be let in: a version up to 1.0 gives it a
+    lease."""
+    if answer.status == 409:
+        return granted(job, answer)
+    value = answer.value()
+    if "let_in" not in value:
+        return granted(job, answer)
+    if answer.reading is None or number(value["let_in"]) != life:
+        raise ValueError(f"life {life} was let in otherwise")
+    epoch = number(value["epoch"])
+    if not 0 < epoch < LIVES:
+        raise ValueError(f"{epoch} is no epoch")
+    return Granted(answer, None, "", epoch=epoch)
 
 
 def freed_in(answer: Answer) -> None:

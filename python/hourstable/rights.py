@@ -18,10 +18,13 @@ from typing import Any, NamedTuple
 
 from hourstable.own_lives import EVICTED, OVERTAKEN, WAITING
 from hourstable.store import Damaged, Life
+from hourstable.versions import ROWS
 
-VERSION = 1  # of the text; a newer one is refused
+PLAIN, AFTER_BACKUP = 1, 2  # forms of the text: the second one also tells of a store that went back
+TASKS = range(1, 65)
 SECRET = 32  # bytes of the secret of a row
 ENDING, ENDED_JOB = "ending", "ended"  # states of a job that was deleted
+WENT_BACK = "went-back"  # the state of a job whose row is older than what was answered: no plane does its calls
 MOST_EPOCH = (1 << 32) - 1
 ENDED = 1 << 32  # the number in the note of a life that has ended, which closes all of its rows
 
@@ -37,6 +40,15 @@ class NotAdmitted(Exception):
 
 class JobEnds(Exception):
     """The job was deleted: no lease is given and nothing is proposed."""
+
+
+class WentBack(Damaged):
+    """The store has less of a job than was answered: it went back, as to a backup."""
+
+    def __init__(self, job: str, why: str) -> None:
+        super().__init__(
+            f"the store went back: {why}. Stop all planes, run `hourstable-service recover` for {job}, and start them"
+        )
 
 
 class WrongKey(Exception):
@@ -62,14 +74,24 @@ class Place(NamedTuple):
         return is_same or (all(self[1:]) and self[1:] == other[1:])
 
 
+class Heard(NamedTuple):
+    """The greatest number of a grant that a life heard, and the greatest generation; 0 for none."""
+
+    number: int = 0
+    generation: int = 0
+
+
 class Asked(NamedTuple):
-    """Who asks for a lease. `shown` are the lives of its task whose keys it has, with these."""
+    """Who asks for a lease, or with `let_in` only to be let in. `shown` are the lives of its task whose keys it has,
+    with these."""
 
     task: int
     life: int
     key: str = ""
     place: Place = Place()
     shown: tuple[tuple[int, str], ...] = ()
+    let_in: bool = False
+    heard: Heard = Heard()
 
 
 @dataclass
@@ -108,35 +130,62 @@ class Rights:
 
     secret: bytes
     epoch: int = 0  # of the job, which no other job of its store ever has; 0 for none yet
-    state: str = ""  # or ENDING: no lease is given; or ENDED_JOB: none lasts
+    state: str = ""  # or ENDING: no lease is given; or ENDED_JOB: none lasts; or WENT_BACK
     seats: dict[int, Seat] = field(default_factory=dict)
     ticket: int | None = None
     is_changed: bool = False  # since it was read or written
+    floor: int = 0  # the greatest life that may have been given out before the store went back
+    quiet: int = 0  # the reading before which no lease is given: one of before the store went back may last
 
     @classmethod
-    def read(cls, job: str, text: str) -> "Rights":
-        """Returns what a text says. Raises Damaged, also if a newer version wrote it."""
+    def read(cls, job: str, text: str, newest: int = ROWS) -> "Rights":
+        """Returns what a text says. Raises Damaged, also if its form is above the newest one that is read."""
         try:
             value = json.loads(text)
-            if value["version"] > VERSION:
+            if value["version"] > newest:
                 raise Damaged(
                     f"the row of {job} is of form {value['version']}; this version of Hourstable reads those up to"
-                    f" {VERSION}: run a newer one"
+                    f" {newest}: run a newer one"
                 )
             seats = {int(task): Seat.of(it) for task, it in value["tasks"].items()}
             epoch, state = int(value.get("epoch", 0)), str(value.get("state", ""))
-            return cls(bytes.fromhex(value["secret"]), epoch, state, seats, value["ticket"])
+            made = cls(bytes.fromhex(value["secret"]), epoch, state, seats, value["ticket"])
+            made.floor, made.quiet = int(value.get("floor", 0)), int(value.get("quiet", 0))
+            return made
         except (ValueError, KeyError, TypeError, AttributeError) as error:
             raise Damaged(f"the rights that are stored of {job} cannot be read: {error!r}") from error
+
+    def form(self) -> int:
+        """Returns the form of the text: the oldest that can say what is to be said."""
+        return AFTER_BACKUP if self.floor or self.quiet or self.state == WENT_BACK else PLAIN
+
+    def fit(self, newest: int) -> None:
+        """Takes a form that is not above the newest one which others read, if one of these can keep what is promised.
+        A job that is stopped stays in its form: who does not read it gives no lease either."""
+        if self.form() > newest and self.state != WENT_BACK:
+            self._say_plainly()
+
+    def _say_plainly(self) -> None:
+        """Says in the plain form what was said of a store that went back: the lives up to the floor count as lives of
+        each task that were let in and evicted. Processes of them hear that they were overtaken, and end."""
+        for task in TASKS:
+            seat = self.seat(task)
+            if seat.life <= self.floor:
+                until = max(seat.reserved, self.quiet)
+                self.seats[task] = Seat(self.floor, seat.deadline, True, is_evicted=True, reserved=until)
+        self.floor, self.quiet, self.is_changed = 0, 0, True
 
     def text(self, ticket: int | None) -> str:
         """Returns the text that is written with a line of this ticket."""
         tasks = {str(task): seat.value() for task, seat in sorted(self.seats.items())}
         value: dict[str, Any] = {
-            "version": VERSION, "ticket": ticket, "secret": self.secret.hex(), "epoch": self.epoch, "tasks": tasks,
+            "version": self.form(), "ticket": ticket, "secret": self.secret.hex(), "epoch": self.epoch,
+            "tasks": tasks,
         }
         if self.state:
             value["state"] = self.state
+        if self.floor or self.quiet:
+            value |= {"floor": self.floor, "quiet": self.quiet}
         return json.dumps(value, separators=(",", ":"))
 
     def after_older(self, lives: Mapping[int, Life], deadline: int) -> None:
@@ -163,10 +212,15 @@ class Rights:
         none, as those of versions up to 1.0 do."""
         if not key and not self.seat(task).keyed:
             return
-        if not self._is_key(task, life, key):
+        if not self.is_key(task, life, key):
             raise WrongKey(task, life)
 
-    def _is_key(self, task: int, life: int, key: str) -> bool:
+    def mark(self) -> str:
+        """Returns a word that changes when the job is recovered, and tells nothing of the secret."""
+        return hmac.digest(self.secret, b"mark", "sha256").hex()[:16] if self.secret else ""
+
+    def is_key(self, task: int, life: int, key: str) -> bool:
+        """Whether a key is that of a life."""
         return hmac.compare_digest(self.key(task, life).encode(), key.encode("utf-8", "surrogateescape"))
 
     # Lives. --------------------------------------------------------------------------------------
@@ -175,10 +229,14 @@ class Rights:
         """Raises WrongKey or NotAdmitted unless a life gets a lease at a reading. At the reading `ends` no lease of
         the task lasts any more."""
         task, life, seat = asked.task, asked.life, self.seat(asked.task)
+        if life <= self.floor:
+            raise NotAdmitted(OVERTAKEN, 0)  # its process begins another one
         if life < seat.life:
             raise NotAdmitted(OVERTAKEN, seat.life)
-        if asked.key and not self._is_key(task, life, asked.key):
+        if asked.key and not self.is_key(task, life, asked.key):
             raise WrongKey(task, life)
+        if at < self.quiet:
+            raise NotAdmitted(WAITING, seat.life, (self.quiet - at) / 1000)
         if life == seat.life and seat.is_evicted:
             raise NotAdmitted(EVICTED, seat.life)
         if life != seat.favoured and at < seat.reserved:
@@ -194,7 +252,7 @@ class Rights:
         """Whether a life takes the place of the one that is let in."""
         if not (seat.keyed and asked.key and not seat.is_evicted and asked.place.follows(seat.place)):
             return False
-        return any(life == seat.life and self._is_key(asked.task, life, key) for life, key in asked.shown)
+        return any(life == seat.life and self.is_key(asked.task, life, key) for life, key in asked.shown)
 
     def admit(self, asked: Asked) -> None:
         """Lets a life in that was given a lease."""

@@ -47,6 +47,7 @@ ROLES: Mapping[str, frozenset[Role] | None] = {
     "POST /jobs/{job}/propose": ASSIGNERS,
     "POST /jobs/{job}/commit": ASSIGNERS,
     "POST /jobs/{job}/hold": ADMINS,  # another plane gives the job away
+    "POST /jobs/{job}/look": ADMINS,  # another plane says that the phase is another one
 }
 
 

@@ -25,10 +25,11 @@ from hourstable.limits import Limits
 from hourstable.plans import Hysteresis
 from hourstable.record import Record
 from hourstable.state import kept_in, state_folder
-from hourstable.store import DEADLINE, Store, open_store
+from hourstable.store import DEADLINE, Store, store_of
 from hourstable.system import SYSTEM, System, make_folder
 from hourstable.tickets import CALLERS, Tickets
 from hourstable.transport import Http, Transport
+from hourstable.versions import ROWS
 
 Access = tuple[Callers, ssl.SSLContext | None]
 log = logging.getLogger("hourstable.service")
@@ -58,12 +59,15 @@ class Options:
     store_deadline: float = DEADLINE  # seconds in which a call of the store returns or fails
     keep_logs: int | None = None  # days for which its logs are kept; None: for ever
     state: Path | None = None  # the folder of its tickets; None: $STATE_DIRECTORY, or the one beside `logs`
+    needs_keys: bool = False  # whether lives get no lease that show no key, as those of versions up to 1.0
+    row_form: int = ROWS  # the newest form of a row that it reads; a lower one stands for an older version
 
 
 class ControlPlane:
     """A control plane that runs from `start`, or from the entry of an `async with`, to `stop`.
 
-    `opens` opens the store of a URL with a deadline, by default `open_store`; the store is closed at the end.
+    `opens` makes the store of a URL with a deadline, by default `store_of`; the plane opens it if that was not done,
+    and closes it at the end.
     `local_clock` is the clock that the tables' clocks go by, and `system` has the other clocks, chance and files.
     `transport` brings the calls that it hands on to other planes, in place of HTTP; the plane closes it.
     """
@@ -81,13 +85,14 @@ class ControlPlane:
         self._transport = transport or Http(options.peer_tls)
         self.plane: Plane | None = None  # from the start on, until it has stopped
         self.port = 0  # on which it listens
-        self._opens = opens or open_store
+        self._opens = opens or _made
         self._local_clock, self._system = local_clock, system
         self._ending = AsyncExitStack()
 
     async def start(self) -> int:
-        """Listens, and returns the port. Raises ValueError if an option is refused, BlockingIOError if another
-        process draws its tickets or beats under its number, StoreFailed and OSError; then nothing is left open."""
+        """Listens, and returns the port once the store answers. Raises ValueError if an option is refused,
+        BlockingIOError if another process draws its tickets or beats under its number, StoreRefused and OSError; then
+        nothing is left open."""
         try:
             async with AsyncExitStack() as ending:
                 self.port = await self._start(ending)
@@ -96,6 +101,21 @@ class ControlPlane:
         except BaseException:
             self.plane = None
             raise
+
+    async def start_unless(self, ended: asyncio.Event) -> bool:
+        """Starts, and returns whether it runs; not if the event is set while the store does not answer. Raises what
+        `start` raises."""
+        starting, ending = asyncio.create_task(self.start()), asyncio.create_task(ended.wait())
+        try:
+            await asyncio.wait({starting, ending}, return_when=asyncio.FIRST_COMPLETED)
+            if not starting.done():
+                return False
+            starting.result()
+            return True
+        finally:
+            for one in (starting, ending):
+                one.cancel()
+            await asyncio.gather(starting, ending, return_exceptions=True)
 
     async def _start(self, ending: AsyncExitStack) -> int:
         chosen, system = self.options, self._system
@@ -109,7 +129,8 @@ class ControlPlane:
         local = self._local_clock or local_clock_of(system=system)
         shared = store.several if chosen.shared is None else chosen.shared
         settings = Settings(
-            chosen.logs, process, shared, chosen.standby, local=local, system=system, keep_logs=chosen.keep_logs
+            chosen.logs, process, shared, chosen.standby, local=local, system=system, keep_logs=chosen.keep_logs,
+            needs_keys=chosen.needs_keys, row_form=chosen.row_form,
         )
         callers = Callers.admins(chosen.secrets) + chosen.callers
         plane = self.plane = Plane(
@@ -140,6 +161,10 @@ class ControlPlane:
 
     async def __aexit__(self, *_: object) -> None:
         await self.stop()
+
+
+async def _made(url: str, deadline: float, system: System) -> Store:
+    return store_of(url, deadline, system)
 
 
 async def _reload(plane: Plane, again: asyncio.Event, read: Callable[[], Access]) -> None:

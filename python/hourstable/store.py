@@ -25,6 +25,7 @@ T = TypeVar("T")
 DEADLINE = 3.0  # seconds: three calls in a row may fail before a guard lease of 10 s has ended
 LAST_LIFE = (1 << 32) - 1
 TRIES = 100  # of a compare-and-set of lives, before it fails
+STEP = 1 << 32  # by which a version rises when a job is recovered
 
 
 class Conflict(Exception):
@@ -38,6 +39,10 @@ class StoreFailed(Exception):
 
 class Damaged(StoreFailed):
     """What the store has of a job cannot be read. Other jobs are not concerned."""
+
+
+class StoreRefused(StoreFailed):
+    """The store is not what the plane was told of, or takes it for somebody else: another try would fail as well."""
 
 
 class NoSuchJob(Exception):
@@ -70,6 +75,13 @@ class Holding(NamedTuple):
     rights: str
 
 
+class Seen(NamedTuple):
+    """A version of a row that was seen, and the mark of its rights, which changes when the job is recovered."""
+
+    version: int
+    mark: str
+
+
 class Life(NamedTuple):
     """The greatest life of a task that was given out, and the life that was drained last."""
 
@@ -95,7 +107,8 @@ class Store(ABC):
         self._changing: dict[str, asyncio.Lock] = {}  # of the lives of jobs
 
     async def open(self) -> None:
-        """Makes what the engine lacks. It is called once, before all others."""
+        """Makes what the engine lacks. It is called before all others, and may be called again. Raises StoreRefused
+        if the engine will not do that later either, as it knows no such user."""
 
     @abstractmethod
     async def jobs(self) -> list[str]:
@@ -122,6 +135,11 @@ class Store(ABC):
         another holder."""
 
     @abstractmethod
+    async def recover(self, job: str, version: int, kept: bytes, lives: str, holding: Holding) -> None:
+        """Writes the kept values, the lives and who may act over those of a version, which rises by
+        STEP as far as the engine lets it. Raises Conflict as swap does."""
+
+    @abstractmethod
     async def read_lives(self, job: str) -> tuple[str, Any]:
         """Returns the text of the lives, `{}` at first, and what to compare at the write. Raises
         NoSuchJob."""
@@ -140,8 +158,8 @@ class Store(ABC):
         """Writes the text of a plane in its row, and returns those of all planes."""
 
     @abstractmethod
-    async def draw_epoch(self) -> int:
-        """Returns a number that no other call of the store returns, from 1 on."""
+    async def draw_epoch(self, steps: int = 1) -> int:
+        """Returns a number that no other call of the store returns, from 1 on: so many above the last one."""
 
     @abstractmethod
     async def close(self) -> None:

@@ -11,11 +11,13 @@ from typing import Any
 import aiohttp
 
 from hourstable.store import (
-    DEADLINE, TRIES, Conflict, Damaged, Holding, NoSuchJob, Store, Stored, StoreFailed,
+    DEADLINE, TRIES, Conflict, Damaged, Holding, NoSuchJob, Store, Stored, StoreFailed, StoreRefused,
 )
 from hourstable.store_rows import Rows
 from hourstable.system import SYSTEM, System
 from hourstable.waiting import within
+
+REFUSALS = (400, 401, 403, 404)  # statuses: it knows no such call, or not who asks
 
 
 class EtcdStore(Store):
@@ -53,10 +55,15 @@ class EtcdStore(Store):
                 f"{member}/v3/kv/{call}", data=json.dumps(body), ssl=self._tls
             ) as answer:
                 text = await answer.read()
+                if answer.status in REFUSALS:
+                    raise StoreRefused(f"etcd: {answer.status} {text[:200]!r}")
                 if answer.status != 200:
                     raise StoreFailed(f"etcd: {answer.status} {text[:200]!r}")
                 told: dict[str, Any] = json.loads(text)
                 return told
+        except aiohttp.ClientConnectorCertificateError as error:
+            self._leave(member)
+            raise StoreRefused(f"etcd: {error!r}") from error
         except (aiohttp.ClientError, OSError, ValueError) as error:
             self._leave(member)
             raise StoreFailed(f"etcd: {error!r}") from error
@@ -158,6 +165,22 @@ class EtcdStore(Store):
         self._rows.wrote(job, written, parts)
         return written
 
+    async def recover(self, job: str, version: int, kept: bytes, lives: str, holding: Holding) -> None:
+        """As a store does. The version is the revision of etcd, which only rises by what is written: a snapshot is
+        restored with --bump-revision."""
+        stored = await self.load(job)
+        if stored is None:
+            raise NoSuchJob(job)
+        parts = self._rows.parts(job, kept)
+        row = {
+            self.TABLE + job: json.dumps({"kept": parts.rest, "line": stored.line}),
+            self.ASSIGNMENTS + job: parts.assignments, self.LIVES + job: lives,
+            self.HOLDER + job: holding.holder, self.RIGHTS + job: holding.rights,
+        }
+        compared = [_is_text(self.HOLDER + job, holding.before)]
+        if await self._write(row, self.TABLE + job, version, compared) is None:
+            raise Conflict(f"{job} is not of version {version}")
+
     async def read_lives(self, job: str) -> tuple[str, Any]:
         body = {"key": _base64(self.LIVES + job)}
         found = (await self._read("range", body)).get("kvs")
@@ -187,12 +210,12 @@ class EtcdStore(Store):
         """Returns what asks for all keys that begin so."""
         return {"key": _base64(prefix), "range_end": _base64(prefix[:-1] + chr(ord("/") + 1))}
 
-    async def draw_epoch(self) -> int:
+    async def draw_epoch(self, steps: int = 1) -> int:
         for _ in range(TRIES):
             found = (await self._read("range", {"key": _base64(self.EPOCH)})).get("kvs")
             before, revision = (int(_text(found[0]["value"])), int(found[0]["mod_revision"])) if found else (0, 0)
-            if await self._write({self.EPOCH: str(before + 1)}, self.EPOCH, revision) is not None:
-                return before + 1
+            if await self._write({self.EPOCH: str(before + steps)}, self.EPOCH, revision) is not None:
+                return before + steps
         raise StoreFailed(f"etcd: other writers drew an epoch first {TRIES} times")
 
     async def close(self) -> None:

@@ -1,6 +1,7 @@
 """The store of jobs in a table of PostgreSQL, over a pool of connections."""
 
 import asyncio
+import re
 from collections.abc import AsyncIterator
 from contextlib import asynccontextmanager
 from typing import Any
@@ -11,7 +12,8 @@ from psycopg.abc import RV, PQGen
 from psycopg_pool import AsyncConnectionPool, PoolClosed, PoolTimeout
 
 from hourstable.store import (
-    DEADLINE, Conflict, Holding, Store, Stored, StoreFailed, after_swap, lives_in, password_in, without,
+    DEADLINE, STEP, Conflict, Holding, Store, Stored, StoreFailed, StoreRefused, after_swap, lives_in, password_in,
+    without,
 )
 from hourstable.store_rows import Rows as RowsOfJobs
 from hourstable.store_rows import stored_in
@@ -20,6 +22,10 @@ from hourstable.system import SYSTEM, System
 CONNECTIONS = 32  # of a store at most
 ADDED = "assignments", "holder", "rights"  # columns that tables of older versions lack
 Rows = tuple[list[Any], int]  # that were read, and the count of those that were written
+REFUSALS = "28", "3D", "42501"  # how codes begin: who asks, the database, and what it may do
+REFUSED = re.compile(r"(role|database) .* does not exist|pg_hba\.conf|not permitted")  # connections tell no codes
+PASSES = re.compile(r"closed the connection|time|SYSCALL|reset|too many|slots|starting up|shutting down|recover")
+VALUE = re.compile(r"connection is bad: (\"[^\"]*\"|invalid .*)", re.DOTALL)  # one of the URL, as a port
 
 
 class Connection(psycopg.AsyncConnection[Any]):
@@ -135,6 +141,8 @@ class PostgresqlStore(Store):
         for last in (False, True):  # two planes that create it at once may both fail
             try:
                 return await self.in_time(self._make_table())
+            except StoreRefused:
+                raise
             except StoreFailed:
                 if last:
                     raise
@@ -160,7 +168,8 @@ class PostgresqlStore(Store):
                 for name in [it for it in ADDED if it not in there]:  # this waits for all who use the table
                     await connection.execute(f"ALTER TABLE hourstable_jobs ADD COLUMN IF NOT EXISTS {name} text")
         except psycopg.Error as error:
-            raise self._failed(error) from None
+            failed = self._failed(error)
+            raise (StoreRefused(str(failed)) if is_refusal(error) else failed) from None
 
     def _failed(self, error: Exception) -> StoreFailed:
         """Returns an error of the server, or of libpq, which may tell what stands in the URL."""
@@ -257,6 +266,15 @@ class PostgresqlStore(Store):
         self._rows.wrote(job, written, parts)
         return written
 
+    async def recover(self, job: str, version: int, kept: bytes, lives: str, holding: Holding) -> None:
+        parts = self._rows.parts(job, kept)
+        _, count = await self._run(
+            "UPDATE hourstable_jobs SET version = version + %s, kept = %s, assignments = %s, lives = %s, holder = %s,"
+            " rights = %s WHERE job = %s AND version = %s AND COALESCE(holder, '') = %s",
+            STEP, parts.rest, parts.assignments, lives, holding.holder, holding.rights, job, version, holding.before,
+        )
+        after_swap(job, version, count)
+
     async def read_lives(self, job: str) -> tuple[str, Any]:
         select = "SELECT lives FROM hourstable_jobs WHERE job = %s"
         return lives_in(job, await self._read(select, job))
@@ -273,10 +291,11 @@ class PostgresqlStore(Store):
         await self._run(f"{insert} ON CONFLICT (process) DO UPDATE SET text = excluded.text", process, text)
         return await self.beats()
 
-    async def draw_epoch(self) -> int:
+    async def draw_epoch(self, steps: int = 1) -> int:
         rows, _ = await self._run(
-            "INSERT INTO hourstable_counters VALUES ('epoch', 1)"
-            " ON CONFLICT (name) DO UPDATE SET value = hourstable_counters.value + 1 RETURNING value"
+            "INSERT INTO hourstable_counters VALUES ('epoch', %s)"
+            " ON CONFLICT (name) DO UPDATE SET value = hourstable_counters.value + excluded.value RETURNING value",
+            steps,
         )
         return int(rows[0][0])
 
@@ -286,3 +305,14 @@ class PostgresqlStore(Store):
             self._drop(self._pool)
         if self._closing:
             await asyncio.wait(self._closing)
+
+
+def is_refusal(error: psycopg.Error) -> bool:
+    """Whether a server that is well would say the same: the URL is none, or it knows no such user, password or
+    database. What is said in other words than these counts as a server that may be well later."""
+    if error.sqlstate is not None:
+        return error.sqlstate.startswith(REFUSALS)
+    text, link = str(error), error.pgconn
+    if isinstance(error, psycopg.ProgrammingError) or REFUSED.search(text) or VALUE.fullmatch(text):
+        return True
+    return link is not None and (link.needs_password or link.used_password) and not PASSES.search(text)

@@ -1,6 +1,7 @@
 """The store of jobs in a file of SQLite."""
 
 import asyncio
+import errno
 import os
 import sqlite3
 from collections import deque
@@ -9,12 +10,15 @@ from concurrent.futures import ThreadPoolExecutor
 from contextlib import suppress
 from typing import Any, NamedTuple, TypeVar
 
-from hourstable.store import DEADLINE, Conflict, Holding, Store, Stored, StoreFailed, after_swap, lives_in
+from hourstable.store import (
+    DEADLINE, STEP, Conflict, Holding, Store, Stored, StoreFailed, StoreRefused, after_swap, lives_in,
+)
 from hourstable.store_rows import Rows, stored_in
 from hourstable.system import SYSTEM, System
 
 RIGHTS = "REPLACE INTO rights VALUES (?, ?, ?)"
 HOLDER = "COALESCE((SELECT holder FROM rights WHERE rights.job = jobs.job), '')"
+PASSES = (sqlite3.SQLITE_BUSY, sqlite3.SQLITE_LOCKED, sqlite3.SQLITE_FULL, sqlite3.SQLITE_IOERR)
 T = TypeVar("T")
 Statement = tuple[str, tuple[object, ...]]
 
@@ -83,7 +87,12 @@ class SqliteStore(Store):
         self._working: asyncio.Task[None] | None = None  # while writes wait
 
     async def open(self) -> None:
-        await self.in_time(self.writes.run(_make_table))
+        try:
+            await self.in_time(self.writes.run(_make_table))
+        except StoreFailed as error:
+            if _is_refusal(error.__cause__):
+                raise StoreRefused(str(error)) from error.__cause__
+            raise
 
     def waiting(self) -> int:
         """Returns how many writes wait for the end of another one."""
@@ -157,6 +166,19 @@ class SqliteStore(Store):
         self._rows.wrote(job, written, parts)
         return written
 
+    async def recover(self, job: str, version: int, kept: bytes, lives: str, holding: Holding) -> None:
+        parts = self._rows.parts(job, kept)
+        also = [
+            ("REPLACE INTO assignments VALUES (?, ?)", (job, parts.assignments)),
+            (RIGHTS, (job, holding.holder, holding.rights)),
+        ]
+        count = await self._write(
+            f"UPDATE jobs SET version = version + ?, kept = ?, lives = ?"
+            f" WHERE job = ? AND version = ? AND {HOLDER} = ?",
+            STEP, parts.rest, lives, job, version, holding.before, then=also,
+        )
+        after_swap(job, version, count)
+
     async def read_lives(self, job: str) -> tuple[str, Any]:
         return lives_in(job, await self._read("SELECT lives FROM jobs WHERE job = ?", job))
 
@@ -171,8 +193,8 @@ class SqliteStore(Store):
         await self._write("REPLACE INTO planes VALUES (?, ?)", process, text)
         return await self.beats()
 
-    async def draw_epoch(self) -> int:
-        return await self.in_time(self.writes.run(_drawn_epoch))
+    async def draw_epoch(self, steps: int = 1) -> int:
+        return await self.in_time(self.writes.run(lambda connection: _drawn_epoch(connection, steps)))
 
     async def close(self) -> None:
         for connected in (self.reads, self.writes):
@@ -203,6 +225,15 @@ def _make_file(path: str) -> None:
         os.close(os.open(path, os.O_RDWR | os.O_CREAT | os.O_EXCL | os.O_CLOEXEC, 0o600))
 
 
+def _is_refusal(error: BaseException | None) -> bool:
+    """Whether it is not that the file is locked, the disk full, or the deadline over, which passes."""
+    if isinstance(error, sqlite3.Error):
+        return getattr(error, "sqlite_errorcode", sqlite3.SQLITE_ERROR) & 0xFF not in PASSES
+    if isinstance(error, TimeoutError):  # an OSError too
+        return False
+    return isinstance(error, OSError) and error.errno not in (errno.ENOSPC, errno.EDQUOT, errno.EIO)
+
+
 def _make_table(connection: sqlite3.Connection) -> None:
     connection.execute("PRAGMA journal_mode = WAL")
     connection.execute(
@@ -223,9 +254,11 @@ def _make_table(connection: sqlite3.Connection) -> None:
     )
 
 
-def _drawn_epoch(connection: sqlite3.Connection) -> int:
+def _drawn_epoch(connection: sqlite3.Connection, steps: int) -> int:
     found = connection.execute(
-        "INSERT INTO counters VALUES ('epoch', 1) ON CONFLICT (name) DO UPDATE SET value = value + 1 RETURNING value"
+        "INSERT INTO counters VALUES ('epoch', ?1)"
+        " ON CONFLICT (name) DO UPDATE SET value = value + ?1 RETURNING value",
+        (steps,),
     ).fetchall()
     return int(found[0][0])
 

@@ -81,6 +81,11 @@ class System:
             code = ctypes.get_errno()
             raise OSError(code, os.strerror(code))
 
+    def identity(self, file: int) -> tuple[int, int]:
+        """Returns the device and the inode of an open file. Raises OSError."""
+        status = os.fstat(file)
+        return status.st_dev, status.st_ino
+
     def close(self, file: int) -> None:
         """Closes an open file, which ends its lock."""
         os.close(file)

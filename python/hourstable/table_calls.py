@@ -6,7 +6,7 @@ from abc import ABC, abstractmethod
 from typing import TYPE_CHECKING, Any, Generic, TypeVar
 
 from hourstable.library import CALLS, JobTerm, LoggedCall, Table
-from hourstable.rights import ENDED, Asked
+from hourstable.rights import ENDED, Asked, WentBack
 
 if TYPE_CHECKING:
     from hourstable.jobs import Held, Job
@@ -62,15 +62,40 @@ class Grant(Call[bytes]):
         self.numbers = {"task": asked.task, "life": asked.life}
 
     def admit(self, job: "Job", held: "Held", at: int) -> None:
+        job.need_key(self.task, self.life, self.asked.key)
+        has_key = bool(self.asked.key) and held.rights.is_key(self.task, self.life, self.asked.key)
         if self.task not in job.lives or self.life > job.lives[self.task].life:
+            if has_key:  # a plane gave it out
+                raise WentBack(job.name, f"task {self.task} has life {self.life}, which the store does not know")
             raise Malformed(f"task {self.task} has had no life {self.life}")
         held.rights.judge(self.asked, at, held.ends_of(self.task, at))
+        if has_key:
+            self._compare(job, held)
+
+    def _compare(self, job: "Job", held: "Held") -> None:
+        """Raises WentBack if the task heard more than the table gave out."""
+        number, generation = self.asked.heard
+        phase = held.table.phase()
+        if number > held.granted():
+            why = f"task {self.task} heard grant {number}, and the table has made {held.granted()}"
+            raise WentBack(job.name, why)
+        if generation > max(phase.committed, phase.proposed):
+            raise WentBack(job.name, f"task {self.task} heard generation {generation}, which the table does not know")
 
     def play(self, table: Table, at: int) -> bytes:
         return table.grant(self.task, self.life, at)
 
     def wrote(self, logged: LoggedCall, result: bytes) -> bytes:
         return result
+
+
+class LetIn(Grant):
+    """A life asks to be let in, before it is started: it is to ask for leases only from its start on. The table is
+    not called, unless it gives no lease to anybody: then it says why. The result is the life and the job's epoch."""
+
+    def told(self, held: "Held") -> bytes:
+        """Returns the result."""
+        return b'{"let_in":%d,"epoch":%d}' % (self.life, held.rights.epoch)
 
 
 class Free(Call[int]):
@@ -91,6 +116,7 @@ class Free(Call[int]):
             task, life, number = (int(self.value[name]) for name in ("task", "life", "number"))
         except (KeyError, TypeError, ValueError):
             return  # the library says what is wrong with it
+        job.need_key(task, life, self.life_key)
         held.rights.check(task, life, self.life_key)
         if number >= ENDED and life >= held.rights.seat(task).life:
             raise Malformed(f"life {life} of task {task} has not ended: no later one is let in")
@@ -232,6 +258,29 @@ def numbers_of(assignment: dict[str, Any]) -> dict[str, Any]:
         return {"generation": int(assignment["generation"]), "slices": slices}
     except (KeyError, TypeError, ValueError, OverflowError) as error:  # 1e999 is no whole number
         raise Malformed("the body is not an assignment") from error
+
+
+LAST, DEADLINE, GRANTED = b'"last":"', b'"deadline":"', b'"granted":"'  # in kept values, but not in their assignments
+
+
+def last_in(kept: bytes) -> int:
+    """Returns the last reading of kept values."""
+    return _number_after(LAST, kept)
+
+
+def deadline_in(kept: bytes) -> int:
+    """Returns the greatest deadline of kept values."""
+    return _number_after(DEADLINE, kept)
+
+
+def granted_in(kept: bytes) -> int:
+    """Returns how many grants kept values count as made."""
+    return _number_after(GRANTED, kept)
+
+
+def _number_after(name: bytes, kept: bytes) -> int:
+    at = kept.rindex(name) + len(name)
+    return int(kept[at:kept.index(b'"', at)])
 
 
 def term_of(term: JobTerm) -> dict[str, int]:

@@ -30,8 +30,8 @@ from .calls import TIMEOUT, UNREADABLE, Control, Keyed, Rejected, Troubles, Unre
 from .clock import local_clock as local_clock_of
 from .context import about
 from .kept_log import KeptLog
-from .leases import KINDS, ClockBehind, Entered, Leases, policy_of
-from .library import Policy, Refused, TaskClock, ended_note, slice_key
+from .leases import KINDS, ClockBehind, Entered, Leases, NoToken, policy_of
+from .library import Phase, Policy, Refused, TaskClock, ended_note, slice_key
 from .logs import TASKS, Log, NoLog, folder_of, job_line
 from .moves import Moves, OnGain, OnLose
 from .own_lives import EVICTED, OVERTAKEN, WAITING, Life, OwnLives
@@ -45,16 +45,19 @@ from .transport import Transport
 from .waiting import Backoff, pause, within
 
 __all__ = [
-    "ClockBehind", "ClockBroken", "Denied", "Drift", "Hold", "Lease", "LeaseLost", "Metrics", "OnGain", "OnLose",
-    "Overtaken", "Rejected", "Renewed", "Task",
+    "ClockBehind", "ClockBroken", "Denied", "Drift", "Hold", "Lease", "LeaseLost", "Metrics", "NoToken", "OnGain",
+    "OnLose", "Overtaken", "Rejected", "Renewed", "Task",
 ]
 
 GRAIN = 2
-LAST_CALLS = 64  # a slicelet that accepts no more calls than these is replaced
+REPLACED_AT = 1024  # calls left of a slicelet below which it is replaced, once a renewal was answered
+LAST_CALLS = 64  # and those below which it gives its leases up for that
+JUST = 1000  # ticks in which a plane must have answered before a slicelet is replaced
 LOAD_BITS = 10  # loads are reported for 1,024 parts of the slice keys
 LOAD_SHIFT = 63 - LOAD_BITS
 JITTER = 0.1  # of half a lease, by which a renewal comes earlier or later
 LEAST_WAIT = 0.1  # seconds between two questions of a life that waits
+DRAINED = 0.05  # seconds between two looks whether a task that is drained has keys
 
 logger = logging.getLogger("hourstable.task")
 
@@ -104,7 +107,14 @@ class Handle:
     def __init__(self, task: "Task", key: str, leases: Leases, entered: Entered, is_logged: bool = True) -> None:
         self.key, self._task, self._leases = key, task, leases
         self._entered, self._is_logged = entered, is_logged
-        self.slice_key, _, self.generation = entered
+        self.slice_key, self.generation = entered[0], entered[2]
+
+    @property
+    def token(self) -> bytes:
+        """The fencing token that the task had at the entry, which it sends to a store with each write of the key: 16
+        bytes, whose order is that of the tokens. The store keeps the greatest token of the key, and refuses a write
+        with a lower one. Raises NoToken."""
+        return self._task._token(self._leases, self._entered)
 
     def _is_held(self) -> bool:
         """Whether the task has held the key since the entry. A handle is of a life: another one has not given it."""
@@ -144,6 +154,8 @@ class Serving:
 
     async def __aenter__(self) -> Lease:
         task = self._task
+        if task._replacing is not None:
+            await task._replacing.wait()
         self._lease = lease = task._enter(self._key)
         task._moves.enter(lease)
         return lease
@@ -176,7 +188,7 @@ class Task:
     calls are always logged. `keep_logs` is for how many days its files are kept. `policy` creates the job if it is
     not there, and is compared if it is. `process` is the number of the process for its tickets, 64 to 255, by default
     63 and that of the task. `oldest` is for how many ticks the task goes on without an
-    answer of the table, by default nine tenths of a guard lease. `timeout` is for how many seconds
+    answer of the table, by default a guard term, in which its leases end. `timeout` is for how many seconds
     it waits for an answer, at most a fifth of a guard lease.
 
     `on_gain(ranges)` is told of slice keys that the task may serve from now on, and
@@ -254,7 +266,9 @@ class Task:
         self._log: KeptLog | NoLog | None = None
         self._leases: Leases | None = None
         self._next: Life | None = None  # a life that was drawn, and is not let in
+        self._replacing: asyncio.Event | None = None  # while a slicelet is replaced: when that is done
         self._dropped: list[tuple[int, str]] = []  # lives whose leases are to be freed, with their keys
+        self._freeing: list[asyncio.Task[None]] = []  # what frees those that were dropped last
         self._late: deque[tuple[int, replies.Granted]] = deque()  # lives, and answers that came after the first one
         self._phases = Phases(self._control)
         self._renew_at = 0
@@ -350,8 +364,8 @@ class Task:
         await asyncio.gather(*self._loops, return_exceptions=True)
         try:
             if self._leases is not None:
-                await within(2 * self._patience + TIMEOUT, self._end_life())
-        except (Unreachable, TimeoutError, Refused, ClockBehind) as why:
+                await within(2 * self._patience + TIMEOUT, self._end_all())
+        except (Unreachable, TimeoutError, Refused, ClockBehind, Overtaken) as why:
             logger.warning("task %d ends with leases that were not freed: %s", self.task, why)
         except Exception as why:
             self._supervisor.caught("stop", why)
@@ -363,6 +377,21 @@ class Task:
             self._log.close()
         self._tickets.close()
         self._over.set()
+
+    async def drain(self, seconds: float = 60.0) -> None:
+        """Lets the assigner give the keys of this task to others, and returns when it has none: then `stop` denies
+        nobody. Another life of the task takes keys again. Raises TimeoutError if it has keys after these seconds."""
+        backoff = Backoff(self._random.random, most=self._most)
+        async with asyncio.timeout(seconds):
+            while True:
+                try:
+                    await self._control.read(replies.done, "POST", "/drain", {"task": self.task})
+                    break
+                except Unreachable as why:
+                    await asyncio.sleep(self._wait_after(why, backoff))
+            self._is_draining = True
+            while self._leases is not None and any(lease.ranges for lease in self._leases.held.values()):
+                await asyncio.sleep(DRAINED)
 
     async def __aenter__(self) -> "Task":
         try:
@@ -416,6 +445,12 @@ class Task:
         if leases is None:
             raise self._denied(key, "down")
         return Hold(self, key, leases, self._asked(leases, key, key.encode(), True))
+
+    def _token(self, leases: Leases, entered: Entered) -> bytes:
+        assert self._policy is not None
+        if self._policy.high > 1:
+            raise NoToken("many-owners")
+        return leases.token(entered)
 
     def reading(self) -> int:
         """Returns the reading of the task's clock. Raises ClockBehind."""
@@ -496,9 +531,9 @@ class Task:
 
     def _wait_after(self, why: Unreachable, backoff: Backoff) -> float:
         """Notes a call that no plane did, and returns for how many seconds to wait before it is made again: for at
-        most a guard term, or a fifth of it while a lease is held, and for no less than planes at a limit need."""
+        most a guard term, or a twentieth of it while a lease is held, and for no less than planes at a limit need."""
         self._note_unreachable(why)
-        most = self._most if self._served else self._longest
+        most = self._most / 4 if self._served else self._longest
         seconds = min(backoff.seconds(why.again), most)
         return max(seconds, why.least * (1 + JITTER * self._random.random()))
 
@@ -529,6 +564,8 @@ class Task:
         self._is_behind = False
         if phase is None:
             return await self._rest(leases, at, "guard")
+        if self._is_spent(leases, phase):
+            return await self._replace(leases)
         action = leases.next(phase, at)
         if action == "start":
             leases.start()
@@ -541,41 +578,107 @@ class Task:
         return await self._rest(leases, at, "bridge" if phase.proposed else "guard")
 
     async def _come_in(self) -> float:
-        """Asks with a life that has not begun, and begins it once it is let in, so that a process that waits for
-        another one logs nothing."""
+        """Asks to be let in with a life that has not begun, and begins it then, so that a process that waits for
+        another one logs nothing, and no lease is asked for before the start of its life."""
         if self._next is None:
             self._next = await self._control.read(replies.life_in, "POST", f"/tasks/{self.task}/life")
             self._lives.draw(self._next)
             self._is_draining = False  # the life before may have been drained
         life = self._next
-        told = await self._answer_to(life.life)
-        if told.lease is None:
+        told = await self._let_in(life.life)
+        if told.refused:
             return self._refused(life.life, told)
-        leases = self._leases = self._begin(life)
+        if self._local_clock() - told.answer.sent >= self._policy_known().guard // 2:
+            return 0.0  # it was stopped, and another life may be let in since
+        leases = self._leases = self._begin(life, told.epoch)
         self._lives.heard(life.life)
         self._free_dropped()
         return self._hear(leases, told)
 
-    def _begin(self, life: Life) -> Leases:
+    async def _let_in(self, life: int) -> replies.Granted:
+        """Returns the answer to a life that asks to be let in."""
+        body = {"task": self.task, "life": life, "let_in": True, **self._lives.asking(life)}
+        return await self._control.first(
+            partial(replies.let_in, self.job, life), lambda _: None, "POST", "/grant", body
+        )
+
+    def _policy_known(self) -> Policy:
+        assert self._policy is not None
+        return self._policy
+
+    def _begin(self, life: Life, epoch: int) -> Leases:
         """Begins a life that is let in, with a clock of its own."""
         assert self._policy is not None and self._log is not None
         self._next, self._is_waiting = None, False
-        oldest = self._policy.guard * 9 // 10 if self._oldest is None else self._oldest
+        oldest = self._policy.guard if self._oldest is None else self._oldest
         clock = TaskClock(self._drift.extra, self._drift.per, GRAIN, oldest)
         self.metrics.lives.inc()
         given = (clock, self._local_clock, self._tickets, self._log)
-        return Leases(self.job, self.task, life.life, life.last, *given)
+        return Leases(self.job, self.task, life.life, life.last, *given, epoch)
+
+    def _is_spent(self, leases: Leases, phase: Phase) -> bool:
+        """Whether the slicelet is replaced now: few of its calls are left, a plane has just answered, and no key
+        moves. The key of its life shows that the next one is of the same process."""
+        is_still = not (phase.proposed or self._is_draining) and list(leases.held) == ["guard"]
+        if leases.calls_left() >= REPLACED_AT or not is_still or not self._lives.key_of(leases.life):
+            return False
+        return self._system.monotonic() - (self.renewed.last or 0.0) < JUST / 1000
+
+    async def _replace(self, old: Leases) -> float:
+        """Begins another life in place of one whose slicelet accepts few more calls, and denies no key for it: new
+        blocks wait until those that are open have ended, and then for one answer."""
+        life = await self._control.read(replies.life_in, "POST", f"/tasks/{self.task}/life")
+        self._lives.draw(life)
+        told = await self._let_in(life.life)
+        self._replacing = asyncio.Event()
+        try:
+            await self._moves.wait_for(old.held["guard"].ranges, self._patience)
+            if self._local_clock() - told.answer.sent >= min(JUST, self._policy_known().guard // 2):
+                told = await self._let_in(life.life)  # else it would start a life that nobody may answer
+            if told.refused:
+                return LEAST_WAIT
+            leases = self._started_after(old, life, told.epoch)
+            return self._hear(leases, told if told.lease else await self._answer_to(leases.life))
+        finally:
+            self._replacing.set()
+            self._replacing = None
+
+    def _started_after(self, old: Leases, life: Life, epoch: int) -> Leases:
+        """Begins and starts a life in place of another one, whose slicelet is not asked again. Its clock goes on. No
+        life in between was let in, so none was started: the notes of the old one are those of the last."""
+        assert self._log is not None
+        given = old.clock, self._local_clock, self._tickets, self._log
+        leases = Leases(self.job, self.task, life.life, old.life, *given, epoch)
+        self.metrics.lives.inc()
+        self._leases = leases
+        self._dropped.append((old.life, self._lives.key_of(old.life)))
+        old.close()
+        leases.start()
+        return leases
 
     async def _end_life(self) -> None:
-        """Gives up all leases of the life, and ends it."""
+        """Gives up all leases of the life, and ends it. A bridge lease that a task must keep for its tokens is freed
+        once the next life has begun."""
         leases = self._leases
         assert leases is not None
-        for kind in KINDS:
+        for kind in reversed(KINDS) if leases.may_give_up("bridge") else ("guard",):
             if kind in leases.held:
                 await self._give_up(leases, kind, is_last=True)
+        if leases.held:
+            await self._leave_life()
+            return
         self._notice()
         self._leases = None
         leases.close()
+
+    async def _end_all(self) -> None:
+        """Ends the life, and frees what it kept by the notes of a life that has ended: the next one begins, and asks
+        for no lease."""
+        await self._end_life()
+        if self._dropped:
+            await self._come_in()
+            self._is_draining = True
+            await asyncio.gather(*self._freeing)
 
     async def _give_all(self) -> None:
         """Gives back the leases that the task still has, if planes answer, before it ends."""
@@ -615,10 +718,8 @@ class Task:
     def _free_dropped(self) -> None:
         """Frees what lives may have that were dropped, once a later one is let in."""
         dropped, self._dropped = self._dropped, []
-        for life, key in dropped:
-            for kind in KINDS:
-                note = ended_note(self.job, self.task, life, kind)
-                self._supervisor.spawn("free", self._free(note, key))
+        notes = [(ended_note(self.job, self.task, life, kind), key) for life, key in dropped for kind in KINDS]
+        self._freeing = [self._supervisor.spawn("free", self._free(*note)) for note in notes]
 
     async def _ask(self, leases: Leases) -> float:
         """Asks the table for a grant, and hears it."""
@@ -626,9 +727,11 @@ class Task:
 
     async def _answer_to(self, life: int) -> replies.Granted:
         """Returns the answer to a life that asks for a lease."""
+        body: dict[str, Any] = {"task": self.task, "life": life, **self._lives.asking(life)}
+        if "key" in body and self._leases is not None and self._leases.heard["number"]:
+            body["heard"] = self._leases.heard  # a store that went back is noticed by it
         return await self._control.first(
-            partial(replies.granted, self.job), partial(self._heard_late, life),
-            "POST", "/grant", {"task": self.task, "life": life, **self._lives.asking(life)},
+            partial(replies.granted, self.job), partial(self._heard_late, life), "POST", "/grant", body,
         )
 
     def _heard_late(self, life: int, told: replies.Granted) -> None:
@@ -649,8 +752,10 @@ class Task:
             leases.sample(told.answer.sent, told.answer.reading)
         if not leases.started and leases.is_sampled():
             leases.start()
-        if told.lease is None:
+        if told.refused:
             return self._refused(leases.life, told)
+        if told.lease is None:
+            return 0.0  # it was let in
         assert self._policy is not None
         try:
             if not leases.hear(told.answer.body, told.lease, self._policy):
@@ -694,16 +799,22 @@ class Task:
             raise Overtaken(why)
         if told.refused == OVERTAKEN:
             self._drop_life()
+            if not told.admitted:  # the store went back: no note of a life before counts any more
+                self._dropped.clear()
             self._next = self._lives.drawn.get(told.admitted) if told.admitted != life else None
             return 0.0
         if not self._is_waiting:
-            logger.warning("task %d waits: life %d of another process is let in", self.task, told.admitted)
+            other = f"life {told.admitted} of another process is let in" if told.admitted else "a lease may last"
+            logger.warning("task %d waits: %s", self.task, other)
         self._is_waiting = True
         return max(LEAST_WAIT, told.after * (1 + JITTER * self._random.random()))
 
     def _heard(self, leases: Leases, kind: str) -> None:
         """Sets when the lease is renewed: at half of it, a little earlier or later."""
         self._phases.learn(kind, leases.held[kind].generation)
+        if self._dropped:
+            self._lives.heard(leases.life)
+            self._free_dropped()
         self.metrics.heard(kind)
         self.renewed = Renewed(self.renewed.times + 1, self._system.monotonic())
         self.metrics.left.set(leases.calls_left())

@@ -8,7 +8,7 @@ task and takes no cancellation back. Here the work has a task of its own, and ne
 import asyncio
 from collections.abc import Callable, Coroutine
 from functools import partial
-from typing import Any, TypeVar
+from typing import Any, Generic, TypeVar
 
 T = TypeVar("T")
 
@@ -70,6 +70,33 @@ async def pause(seconds: float, event: asyncio.Event) -> None:
         await within(seconds, event.wait())
     except TimeoutError:
         pass
+
+
+class Shared(Generic[T]):
+    """Work by name whose result several want at once: it is done once at a time, for all of them."""
+
+    def __init__(self) -> None:
+        self._under_way: dict[str, asyncio.Task[T]] = {}
+
+    def is_begun(self, name: str) -> bool:
+        """Whether the work of a name is under way."""
+        return name in self._under_way
+
+    async def result(self, name: str, begin: Callable[[], Coroutine[Any, Any, T]]) -> T:
+        """Returns what the work that is under way returns, or raises what it raises; if none is, `begin` begins it.
+        It goes on if a caller is cancelled."""
+        work = self._under_way.get(name)
+        if work is None:
+            work = self._under_way[name] = asyncio.create_task(begin())
+            work.add_done_callback(lambda _: self._under_way.pop(name))
+        return await asyncio.shield(work)
+
+    async def close(self) -> None:
+        """Cancels what is under way, and returns once it has ended."""
+        works = list(self._under_way.values())
+        for work in works:
+            work.cancel()
+        await asyncio.gather(*works, return_exceptions=True)
 
 
 class Backoff:

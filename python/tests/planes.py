@@ -15,7 +15,7 @@ from hourstable.tickets import HEADER, Tickets
 from lines import line_of, told_grant, value_of
 
 T = TypeVar("T")
-JOB = "shop"
+JOB, EPOCH = "shop", 7
 POLICY: dict[str, Any] = {
     "redundancy": [1, 1], "skew": 0, "guard": 2000, "bridge": 2000, "job": 60_000,
     "numbers": 1000,
@@ -47,6 +47,7 @@ class Plane:
         self.lives: dict[int, int] = {}
         self.asked: list[tuple[str, Any]] = []
         self.loads: list[Any] = []
+        self.is_new = True  # a version up to 1.0 gives a lease to who asks to be let in
         self.fault: Fault | None = None
         self.changed = asyncio.Event()
         self.url = ""
@@ -182,8 +183,12 @@ class Plane:
 
     async def grant(self, request: web.Request) -> web.Response:
         asked = await request.json()
-        self.asked.append(("grant", asked))
         task, life = asked["task"], asked["life"]
+        phase = self.table.phase()
+        if self.is_new and asked.get("let_in") and (phase.committed or phase.proposed):
+            headers = {"Hourstable-Reading": str(self.reading())}
+            return web.json_response({"let_in": life, "epoch": EPOCH}, headers=headers)
+        self.asked.append(("grant", asked))
 
         def told(grant: bytes) -> str:
             return told_grant(value_of(grant))

@@ -19,6 +19,7 @@ from hourstable.store import Store
 from hourstable.system import SYSTEM, System, make_folder
 from hourstable.tickets import Tickets
 from hourstable.transport import Transport
+from hourstable.versions import ROWS
 
 POLICY: dict[str, Any] = {
     "redundancy": [1, 1], "skew": 0, "guard": 1000, "bridge": 1000, "job": 2000, "numbers": 1000
@@ -105,11 +106,14 @@ async def running(
     limits: Limits | None = None, secrets: list[str] | None = None, ahead: tuple[int, int] = (0, 0),
     system: System = SYSTEM, poll: float = 0.05, state: Path | None = None,
     callers: Callers | None = None, hosts: Sequence[str] = (), transport: Transport | None = None,
+    row_form: int = ROWS,
 ) -> AsyncIterator[tuple[Plane, Caller]]:
     """A plane that listens, and a caller of it. With no folder of logs it has one for its state."""
     state = make_folder(state or folder.parent / "state")  # type: ignore[union-attr]
     tickets = Tickets(process, state / f"control-{process}.ticket", system=system)
-    settings = Settings(folder, process, shared, standby, *ahead, local=local_clock(), system=system)
+    settings = Settings(
+        folder, process, shared, standby, *ahead, local=local_clock(), system=system, row_form=row_form
+    )
     generous = Limits(grants=1e6, burst=1e6)
     known = callers or Callers.admins(secrets or [])
     plane = Plane(store, settings, tickets, limits or generous, known, hosts, transport)

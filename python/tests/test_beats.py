@@ -163,12 +163,13 @@ async def test_a_client_hears_of_a_change_through_beats(file: Store, tmp_path: P
             assert client.tickets.draw() > max(line["ticket"] for line in lines_of(tmp_path / "logs"))
 
 
-@pytest.mark.parametrize("when", ["before the call", "while it waits"])
+@pytest.mark.parametrize("when", ["before the call", "while it waits", "while the first call waits"])
 async def test_two_missing_beats_end_a_call(file: Store, tmp_path: Path, when: str) -> None:
     async with running(file, tmp_path / "logs") as (plane, caller):
         await begun(caller)
         async with relayed(caller.url) as relay, control(relay.url) as client:
-            assert (await client.call("GET", "/phase")).value()["committed"] == 1
+            if when != "while the first call waits":
+                assert (await client.call("GET", "/phase")).value()["committed"] == 1
             relay.is_black = when == "before the call"
             waiting = asyncio.create_task(client.call("GET", PHASE, timeout=32.0))
             if not relay.is_black:

@@ -1,13 +1,14 @@
 """Tests of the demo's cache: the shelf of sessions, and the check that knows nothing of
 Hourstable."""
 
+import fcntl
 import json
 from pathlib import Path
 
 import pytest
 
 from hourstable.demo import judge
-from hourstable.demo.shelf import NOTHING, Session, Shelf, Taken
+from hourstable.demo.shelf import NOTHING, Late, Locked, Session, Shelf
 
 
 def written(folder: Path, name: str, lines: list[list[object]]) -> None:
@@ -17,23 +18,47 @@ def written(folder: Path, name: str, lines: list[list[object]]) -> None:
 
 
 def test_sessions_on_the_shelf(tmp_path: Path) -> None:
-    shelf = Shelf(tmp_path, "task-1")
-    assert shelf.newest("a/b") == NOTHING
+    shelf = Shelf(tmp_path)
+    assert shelf.take("a/b", b"1") == NOTHING
     first = NOTHING.after("x", "one")
-    shelf.fill("a/b", first)
-    shelf.fill("a/b", first.after("y", "two"))
-    assert Shelf(tmp_path, "task-2").newest("a/b") == Session(2, "two", ("y", "x"))
-    assert shelf.newest("a") == NOTHING
+    shelf.put("a/b", b"1", first)
+    shelf.put("a/b", b"1", first.after("y", "two"))
+    assert Shelf(tmp_path).take("a/b", b"1") == Session(2, "two", ("y", "x"))
+    assert shelf.take("a", b"1") == NOTHING
 
 
-def test_a_slot_is_filled_once(tmp_path: Path) -> None:
-    one, two = Shelf(tmp_path, "task-1"), Shelf(tmp_path, "task-2")
-    one.fill("key", NOTHING.after("x", "one"))
-    with pytest.raises(Taken):
-        two.fill("key", NOTHING.after("y", "two"))
-    assert two.newest("key").text == "one"
-    two.fill("key", two.newest("key").after("y", "two"))
-    assert one.newest("key").ids == ("y", "x")
+def test_a_late_writer_is_refused(tmp_path: Path) -> None:
+    one, two = Shelf(tmp_path), Shelf(tmp_path)
+    one.put("key", b"1", NOTHING.after("x", "one"))
+    taken = two.take("key", b"2")
+    assert taken.text == "one"
+    with pytest.raises(Late):
+        one.put("key", b"1", taken.after("y", "late"))
+    with pytest.raises(Late):
+        one.take("key", b"1")
+    two.put("key", b"2", taken.after("z", "two"))
+    assert two.take("key", b"2").ids == ("z", "x")
+
+
+def test_a_line_that_a_kill_left_torn(tmp_path: Path) -> None:
+    shelf = Shelf(tmp_path)
+    shelf.put("key", b"2", NOTHING.after("x", "one"))
+    with open(tmp_path / "key-key", "a", encoding="utf-8") as file:
+        file.write('["33", 2, "two", ["y"')
+    assert shelf.take("key", b"2").text == "one"
+    shelf.put("key", b"2", NOTHING.after("x", "one").after("z", "two"))
+    assert shelf.take("key", b"2").ids == ("z", "x")
+
+
+def test_a_key_whose_writer_is_stopped(tmp_path: Path) -> None:
+    shelf = Shelf(tmp_path)
+    shelf.put("key", b"1", NOTHING.after("x", "one"))
+    with open(tmp_path / "key-key", "rb") as file:
+        fcntl.flock(file, fcntl.LOCK_EX)
+        with pytest.raises(Locked):
+            shelf.take("key", b"2")
+        assert shelf.take("other", b"1") == NOTHING
+    assert shelf.take("key", b"2").text == "one"
 
 
 def test_a_session_knows_its_last_writes() -> None:
@@ -45,15 +70,15 @@ def test_a_session_knows_its_last_writes() -> None:
 
 
 def shelf_of(folder: Path) -> Shelf:
-    return Shelf(folder / "shelf", "test")
+    return Shelf(folder / "shelf")
 
 
 def test_a_run_without_faults(tmp_path: Path) -> None:
     shelf = shelf_of(tmp_path)
     first = NOTHING.after("x", "one")
     second = first.after("y", "two")
-    shelf.fill("key", first)
-    shelf.fill("key", second)
+    shelf.put("key", b"1", first)
+    shelf.put("key", b"1", second)
     written(tmp_path, "spans-1.jsonl", [[1, "key", "write x", 10, 20]])
     written(tmp_path, "spans-2.jsonl", [[2, "key", "write y", 20, 30], [2, "other", "read", 0, 99]])
     written(
@@ -87,7 +112,7 @@ def test_a_torn_last_line_is_left_out(tmp_path: Path) -> None:
 
 def test_lost_writes_are_found(tmp_path: Path) -> None:
     shelf = shelf_of(tmp_path)
-    shelf.fill("key", NOTHING.after("x", "one"))
+    shelf.put("key", b"1", NOTHING.after("x", "one"))
     written(
         tmp_path, "acks-1.jsonl",
         [["write", "key", "x", 1, 0, 1], ["write", "key", "y", 1, 0, 1],
@@ -100,20 +125,28 @@ def test_lost_writes_are_found(tmp_path: Path) -> None:
 
 def test_a_session_that_was_begun_anew_is_found(tmp_path: Path) -> None:
     shelf = shelf_of(tmp_path)
-    shelf.fill("key", Session(1, "", ("x",)))
-    shelf.fill("key", Session(2, "", ("y", "x")))
-    shelf.fill("key", Session(3, "", ("z", "x")))  # made of version 1
-    shelf.fill("key", Session(5, "", ("v", "u")))
+    shelf.put("key", b"1", Session(1, "", ("x",)))
+    shelf.put("key", b"1", Session(2, "", ("y", "x")))
+    shelf.put("key", b"1", Session(3, "", ("z", "x")))  # made of version 1
+    shelf.put("key", b"1", Session(5, "", ("v", "u")))
     assert judge.judge(tmp_path).faults == [
-        "key: version 3 is not made of version 2", "key: version 4 is missing",
-        "key: version 5 is not made of version 4",
+        "key: version 3 is not made of version 2", "key: version 5 is not made of version 3",
+    ]
+
+
+def test_a_write_that_the_shelf_should_have_refused_is_found(tmp_path: Path) -> None:
+    (tmp_path / "shelf").mkdir()
+    lines = [["02", 1, "one", ["x"]], ["03", 1, "one", ["x"]], ["03", 2, "two", ["y", "x"]]]
+    written(tmp_path / "shelf", "key-key", [*lines, ["02", 2, "late", ["z", "x"]]])
+    assert judge.judge(tmp_path).faults == [
+        "key: version 2 has the token 02 after 03", "key: version 2 is not made of version 2",
     ]
 
 
 def test_stale_reads_are_found(tmp_path: Path) -> None:
     shelf = shelf_of(tmp_path)
-    shelf.fill("key", Session(1, "", ("x",)))
-    shelf.fill("key", Session(2, "", ("y", "x")))
+    shelf.put("key", b"1", Session(1, "", ("x",)))
+    shelf.put("key", b"1", Session(2, "", ("y", "x")))
     written(
         tmp_path, "acks-1.jsonl",
         [["write", "key", "y", 2, 0, 50], ["read", "key", "", 1, 49, 99],

@@ -46,12 +46,13 @@ async def test_a_callback_that_raises_ends_no_renewal(tmp_path: Path, caplog: py
         await until(lambda: task.renewed.times >= 3)
         plane.propose(2, [(0, 2)])
         await plane.commit_soon()
+        await until(lambda: counted(task.metrics.text(), ERRORS, where="on_lose") >= 1)
         plane.propose(3, [(0, 1)])
         await plane.commit_soon()
-        await until(lambda: task.served() != [])
-        assert counted(task.metrics.text(), ERRORS, where="on_gain") >= 2
-        assert counted(task.metrics.text(), ERRORS, where="on_lose") == 1
-        assert task.state == "serving"
+        await until(lambda: counted(task.metrics.text(), ERRORS, where="on_gain") >= 2)
+        renewed = task.renewed.times
+        await until(lambda: task.renewed.times >= renewed + 2 and task.state == "serving")
+        assert counted(task.metrics.text(), ERRORS, where="lease") == 0
     assert "no memory for keys" in caplog.text and "no disk for keys" in caplog.text
     await plane.stop()
 

@@ -15,9 +15,10 @@ from hourstable.calls import Control, Unreachable
 from hourstable.client import Again, NoOwner, Router
 from hourstable.library import Found
 from hourstable.tickets import HEADER, Tickets
-from hourstable.waiting import Backoff
+from hourstable.waiting import Backoff, within
 from lines import line_of
 from planes import JOB, Plane
+from waits import counted, until
 
 HALF = 1 << 62
 
@@ -55,6 +56,27 @@ async def test_owners(plane: Plane, tmp_path: Path) -> None:
         "look 3: found generation 1 owners 2", "learn 3: learnt 2",
         "look 3: found generation 2 owners 2",
     ]
+
+
+async def test_a_router_goes_on_after_an_error_that_nobody_expected(
+    plane: Plane, monkeypatch: pytest.MonkeyPatch, caplog: pytest.LogCaptureFixture
+) -> None:
+    learn, failures = Router._learn, [1]
+
+    async def fails(router: Router) -> None:
+        await learn(router)
+        if failures:
+            failures.pop()
+            raise RuntimeError("what nobody expected")
+
+    monkeypatch.setattr(Router, "_learn", fails)
+    async with Router(plane.url, JOB) as router:
+        plane.settle(1, [(0, 1), (HALF, 2)])
+        await until(lambda: not failures)
+        plane.settle(2, [(0, 2)])
+        await until(lambda: router.generation == 2)
+        assert counted(router.metrics.text(), "hourstable_internal_errors_total", where="assignments") == 1
+    assert "what nobody expected" in caplog.text
 
 
 async def test_a_router_keeps_its_logs_for_some_days(plane: Plane, tmp_path: Path) -> None:
@@ -198,6 +220,20 @@ async def test_an_answer_that_does_not_come_in_time(plane: Plane) -> None:
     async with Control(plane.url, JOB, Tickets(7, None), lambda: 0, timeout=0.1) as control:
         with pytest.raises(Unreachable, match="Timeout"):
             await control.call("GET")
+
+
+async def test_what_is_late_is_cancelled() -> None:
+    ended = list[str]()
+
+    async def works() -> None:
+        try:
+            await asyncio.sleep(60)
+        finally:
+            ended.append("work")
+
+    with pytest.raises(TimeoutError):
+        await within(0.01, works())
+    assert ended == ["work"]
 
 
 def test_waits_grow_up_to_a_limit() -> None:

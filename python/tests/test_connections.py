@@ -104,6 +104,7 @@ async def test_silent_connections_deny_no_caller_that_authenticated(file: Store,
         assert await new_caller_is_answered(caller)
         text = (await caller.ask("GET", "/metrics", None, KNOWN)).body.decode()
         assert 'hourstable_limited_total{limit="first-request"} 12.0' in text
+        assert 'hourstable_limited_total{limit="connections"} 8.0' in text
 
 
 @pytest.mark.parametrize("sent", [
@@ -147,6 +148,8 @@ async def test_an_address_has_a_limit(file: Store, tmp_path: Path) -> None:
                 assert told.startswith(b"HTTP/1.1 429") and b'"limit": "peer"' in told
                 assert (await other.end()).startswith(b"HTTP/1.1 200")
         assert await new_caller_is_answered(caller)
+        text = (await caller.ask("GET", "/metrics")).body.decode()
+        assert 'hourstable_limited_total{limit="peer"} 1.0' in text
 
 
 async def test_connections_without_a_right_secret_are_closed(file: Store, tmp_path: Path) -> None:

@@ -20,7 +20,8 @@ from prometheus_client.parser import text_string_to_metric_families  # noqa: E40
 from hourstable import waits  # noqa: E402
 from hourstable.control import Limits, Plane  # noqa: E402
 from hourstable.library import Slicelet  # noqa: E402
-from hourstable.store import Holding, Store, StoreFailed  # noqa: E402
+from hourstable.limits import Bucket  # noqa: E402
+from hourstable.store import Holding, Store, Stored, StoreFailed  # noqa: E402
 from hourstable.waiting import within  # noqa: E402
 from serving import HALF, POLICY, Answer, Caller, assignment, lines_of, running  # noqa: E402
 from stores import opened  # noqa: E402
@@ -87,6 +88,38 @@ async def test_a_job_is_created_once(file: Store, tmp_path: Path) -> None:
         assert status["policy"] == POLICY
         assert (status["phase"], status["committed"], status["pending"]) == ("idle", 0, None)
         assert (status["term"], status["rows"], status["alive"]) == (None, [], [])
+
+
+class Looked:
+    """A store that tells that there is no row of a job only once somebody has made one."""
+
+    def __init__(self, store: Store) -> None:
+        self._store, self.looked, self.made = store, asyncio.Event(), asyncio.Event()
+
+    def __getattr__(self, name: str) -> Any:
+        return getattr(self._store, name)
+
+    async def load(self, job: str) -> Stored | None:
+        found = await self._store.load(job)
+        if found is None:
+            self.looked.set()
+            await self.made.wait()
+        return found
+
+    async def create(self, job: str, *given: Any) -> int:
+        version = await self._store.create(job, *given)
+        self.made.set()
+        return version
+
+
+async def test_a_job_is_created_while_somebody_looks_for_it(file: Store, tmp_path: Path) -> None:
+    store: Any = Looked(file)
+    async with running(store, tmp_path / "logs") as (_, caller):
+        looking = asyncio.create_task(caller.get())
+        await store.looked.wait()
+        assert (await caller.create()).status == 201
+        assert (await looking).status == 404
+        assert (await caller.get()).status == 200
 
 
 @pytest.mark.parametrize("policy", [
@@ -247,6 +280,23 @@ async def test_retries_are_answered_as_the_first_time(file: Store, tmp_path: Pat
     ]
 
 
+async def test_what_only_looks_like_a_retry(file: Store, tmp_path: Path) -> None:
+    """A commit of a generation that another one followed, and a proposal by a term that has ended."""
+    async with running(file, tmp_path / "logs") as (_, caller):
+        term = await begun(caller)
+        await caller.change(term, 2, HALVES)
+        older = await caller.post("commit", {"term": term, "generation": 1})
+        assert (older.status, older.json["refused"]) == (409, "nothing-pending")
+        message = assignment(3, WHOLE)
+        proposed = await caller.post(f"propose?term={term}", message)
+        assert (proposed.status, proposed.json) == (200, {"generation": 3})
+        while (taken := await caller.post("take", {"assigner": 2})).status != 200:
+            await asyncio.sleep(0.1)
+        assert taken.json["number"] > term
+        late = await caller.post(f"propose?term={term}", message)
+        assert (late.status, late.json["refused"]) == (409, "not-holder")
+
+
 async def test_retries_over_a_restart(file: Store, tmp_path: Path) -> None:
     async with running(file, tmp_path / "logs") as (_, caller):
         await caller.create()
@@ -354,6 +404,29 @@ async def test_a_store_that_is_too_slow(file: Store, tmp_path: Path) -> None:
         await asyncio.sleep(0.8)
         assert (await caller.grant(1)).json["value"]["number"] == "2"
     assert [line["do"] for line in lines_of(tmp_path / "logs")][-2:] == ["grant", "grant"]
+
+
+async def test_a_store_that_stands_still_keeps_calls_up_once(tmp_path: Path) -> None:
+    """Calls that wait behind one that met the deadline of the store fail with it: each would wait as long, one after
+    the other, since each asks for the same."""
+    async with opened(f"sqlite:{tmp_path}/jobs", 0.4) as store:
+        trouble, tries = Trouble(store), list[str]()
+        async with running(trouble, tmp_path / "logs") as (plane, caller):  # type: ignore[arg-type]
+            term = await begun(caller)
+
+            async def stands_still() -> None:
+                tries.append("swap")
+                while len(tries) == 1 and len(plane.jobs["shop"].job._waiting) < 5:
+                    await asyncio.sleep(0.01)
+                await asyncio.sleep(0.4)
+                raise StoreFailed("no answer")
+
+            trouble.before = stands_still
+            told = await asyncio.gather(*(caller.post("renew", {"term": term}) for _ in range(6)))
+            assert [one.status for one in told] == [503] * 6
+            assert len(tries) == 1
+            trouble.before = None
+            assert (await caller.grant(1)).status == 200
 
 
 async def test_a_store_that_fails_before_it_writes(file: Store, tmp_path: Path) -> None:
@@ -794,6 +867,11 @@ async def test_grants_of_a_task_have_a_rate(file: Store, tmp_path: Path) -> None
         assert (await caller.grant(2)).status == 200
         await asyncio.sleep(0.6)
         assert [(await caller.grant(1)).status for _ in range(2)] == [200, 429]
+
+
+def test_a_burst_is_limited_however_long_nobody_asked() -> None:
+    bucket = Bucket(2.0, 3.0, 100.0)
+    assert [bucket.take(1000.0) for _ in range(4)] == [0.0, 0.0, 0.0, 0.5]
 
 
 async def test_connections_have_a_limit(file: Store, tmp_path: Path) -> None:

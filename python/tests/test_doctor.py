@@ -19,7 +19,7 @@ import needed
 
 needed.library()
 
-from hourstable import callers, doctor, readiness  # noqa: E402
+from hourstable import callers, command, doctor, readiness  # noqa: E402
 from hourstable.calls import Rejected  # noqa: E402
 from hourstable.client import NoOwner, Router  # noqa: E402
 from hourstable.command import main  # noqa: E402
@@ -205,11 +205,15 @@ async def test_a_job_that_fails(tmp_path: Path, capfd: Said) -> None:
                    for line in lines)
 
 
-def test_the_numbers_of_planes_are_below_those_of_tasks(capfd: Said, tmp_path: Path) -> None:
+async def test_the_numbers_of_planes_are_below_those_of_tasks(tmp_path: Path) -> None:
     words = ["--store", f"sqlite:{tmp_path}/jobs", "--logs", f"{tmp_path}/logs", "--listen", "127.0.0.1:0"]
-    assert main(["control", *words, "--process", "64"]) == 2
-    assert "process 64 is not 0 to 63: tasks and clients have those above" in capfd.readouterr().err
-    assert main(["assigner", "--control", "http://127.0.0.1:1", "--assigner", "1", "--process", "64"]) == 2
+    assert command.options_of(command.parser().parse_args(["control", *words, "--process", "63"])).process == 63
+    refused = "process 64 is not 0 to 63: tasks and clients have those above"
+    with pytest.raises(ValueError, match=refused):
+        command.options_of(command.parser().parse_args(["control", *words, "--process", "64"]))
+    words = ["assigner", "--control", "http://127.0.0.1:1", "--assigner", "1", "--process", "64"]
+    with pytest.raises(ValueError, match=refused):
+        await within(20.0, command._run_assigner(command.parser().parse_args(words)))
 
 
 def test_a_plane_with_certificates(certificates: Path, capfd: Said) -> None:

@@ -2,6 +2,7 @@
 
 import asyncio
 import json
+import time
 from collections.abc import AsyncIterator, Mapping
 from contextlib import AsyncExitStack
 from pathlib import Path
@@ -75,8 +76,9 @@ class Side:
 
     async def granted(self, task: int = 1) -> Answer:
         """Asks for a grant until it is given."""
+        end = time.monotonic() + 60
         while (told := await self.caller.grant(task)).status != 200:
-            assert told.status == 503, told
+            assert told.status == 503 and time.monotonic() < end, told
             await asyncio.sleep(0.05)
         return told
 
@@ -118,6 +120,34 @@ async def test_a_plane_that_does_not_hold_a_job_hands_calls_on(two: tuple[Side, 
     assert [it["body"]["value"]["number"] for it in many.json["answers"]] == ["4", "5"]
     refused = await second.caller.post("renew", {"term": 9})
     assert (refused.status, refused.json["refused"]) == (409, "not-holder")
+
+
+async def test_a_plane_that_stands_by_hears_of_a_phase_at_once(file: Store, tmp_path: Path) -> None:
+    """It is told by the holder, and does not wait until it looks at the store again."""
+    logs = tmp_path / "logs"
+    async with running(file, logs, 1, True, STANDBY) as (holder, first):
+        assert (await first.create(LONG)).status == 201
+        term = await first.take()
+        await first.change(term, 1, WHOLE)
+        async with running(file, logs, 2, True, STANDBY, poll=60) as (_, second):
+            await until(lambda: holder.peers.others() == [2])
+            for known, told in (("committed=1&pending=0", (1, 2)), ("committed=1&pending=2", (2, None))):
+                waiting = asyncio.create_task(second.get(f"/phase?{known}"))
+                await asyncio.sleep(0.1)
+                if told == (1, 2):
+                    await first.post(f"propose?term={term}", assignment(2, WHOLE))
+                else:
+                    await first.post("commit", {"term": term})
+                phase = (await asyncio.wait_for(waiting, 10)).json
+                assert (phase["committed"], phase["pending"]) == told
+
+
+async def test_a_job_is_not_taken_from_a_plane_that_does_not_give_it(two: tuple[Side, Side]) -> None:
+    first, second = two
+    assert first.job.is_held
+    told = await second.caller.post("hold", {"process": 7})
+    assert (told.status, told.json["refused"]) == (503, "replaced")
+    assert (first.job.is_held, second.job.is_held) == (True, False)
 
 
 async def test_a_call_that_was_handed_on_is_not_handed_on_again(two: tuple[Side, Side]) -> None:
@@ -186,8 +216,6 @@ async def test_a_plane_that_does_not_reach_the_store_asks_the_other(two: tuple[S
 async def test_a_plane_that_nobody_reaches_loses_its_jobs(two: tuple[Side, Side]) -> None:
     """It reaches the store, and beats on."""
     first, second = two
-    first.plane.jobs["shop"].job.holder_since -= 60
-    second.job.holder_since -= 60
     second.link.is_cut = True
     begun = asyncio.get_running_loop().time()
     await second.granted()
@@ -198,7 +226,6 @@ async def test_a_plane_that_nobody_reaches_loses_its_jobs(two: tuple[Side, Side]
 async def test_a_plane_that_tasks_reach_keeps_its_jobs(two: tuple[Side, Side]) -> None:
     """The planes do not reach each other, and one task reaches the other plane alone."""
     first, second = two
-    second.job.holder_since -= 60
     second.link.is_cut = True
 
     async def renew() -> None:
@@ -214,6 +241,33 @@ async def test_a_plane_that_tasks_reach_keeps_its_jobs(two: tuple[Side, Side]) -
     assert not renewing.done()
     renewing.cancel()
     assert (first.job.is_held, second.job.is_held) == (True, False)
+
+
+@pytest.mark.parametrize(("tasks", "ago", "takes"), [
+    (0, 10.0, True),  # fewer than asked this plane
+    (1, 8.0, True),  # none since it is silent, 7 s ago: its tasks cannot reach it
+    (1, 6.2, True),  # so little later that the silence was not yet noticed
+    (1, 3.0, False),  # a task asked it meanwhile, though no other one for longer than planes wait
+    (2, 3.0, False), (2, 0.1, False),
+])
+async def test_which_tasks_the_holder_is_to_hear(
+    tasks: int, ago: float, takes: bool, two: tuple[Side, Side], monkeypatch: pytest.MonkeyPatch
+) -> None:
+    _, second = two
+    job, forwarding, peers = second.job, second.plane.forwarding, second.plane.peers
+    begun = peers._now()
+    monkeypatch.setattr(peers, "standby", 2.0)
+    monkeypatch.setattr(forwarding, "_now", lambda: begun + 7)
+    peers.steady_since, peers._written, peers._told[1] = begun - 60, begun + 7, begun + 7
+    forwarding._silent[1], forwarding._missed["shop"] = begun, (begun + 1, begun + 6.9)
+    forwarding.hear("shop", 3)
+    monkeypatch.setattr(peers, "_now", lambda: begun + 7)
+    beat = peers.known[1]._replace(heard={"shop": Heard(tasks, ago)})
+    assert forwarding._is_out_of_reach(job, beat) is takes
+    forwarding._missed["shop"] = begun + 6.9, begun + 6.9  # who was turned away once may have found the holder
+    assert not forwarding._is_out_of_reach(job, beat)
+    forwarding._missed["shop"], forwarding._heard["shop"] = (begun + 1, begun + 6.9), {3: begun - 1}
+    assert not forwarding._is_out_of_reach(job, beat)  # it was handed on: nobody was turned away
 
 
 async def test_a_plane_that_ends_gives_its_jobs_away(two: tuple[Side, Side]) -> None:
@@ -280,6 +334,42 @@ async def test_beats_are_those_of_all_planes(url: str) -> None:
 
 async def peers_of(store: Store, process: int, incarnation: str) -> Peers:
     return Peers(store, process, incarnation, STANDBY, asyncio.get_running_loop().time)
+
+
+async def test_when_a_plane_is_gone(file: Store) -> None:
+    """If it says that it has ended, or its beat stands still while another plane writes so many."""
+    first, second = await peers_of(file, 1, "a"), await peers_of(file, 2, "b")
+    for one in (first, second, first):
+        await one.beat({}, frozenset())
+    assert (first.others(), second.others()) == ([2], [1])
+    for _ in range(PART - 1):
+        await first.beat({}, frozenset())
+        assert not first.is_gone(2)
+    await first.beat({}, frozenset())
+    assert first.is_gone(2) and first.others() == []
+    await second.beat({}, frozenset({"shop"}))
+    await first.beat({}, frozenset())
+    told = first.of(2)
+    assert told is not None and told.failed == {"shop"} and first.others() == [2]
+    await second.end()
+    await first.beat({}, frozenset())
+    assert first.is_gone(2) and first.others() == []
+
+
+async def test_no_plane_is_gone_for_a_store_that_stands_still(file: Store) -> None:
+    """After an hour in which nobody wrote a beat, the first plane that writes one again says nothing of the other."""
+    now = [0.0]
+    mine = Peers(file, 1, "a", STANDBY, lambda: now[0])
+    other = Peers(file, 2, "b", STANDBY, lambda: now[0])
+    for one in (mine, other, mine):
+        await one.beat({}, frozenset())
+    now[0] += 3600
+    for _ in range(PART - 2):
+        await mine.beat({}, frozenset())
+        assert not mine.is_gone(2)
+    await other.beat({}, frozenset())
+    await mine.beat({}, frozenset())
+    assert mine.others() == [2]
 
 
 async def test_beats_count_while_the_own_are_written(file: Store) -> None:

@@ -21,7 +21,7 @@ from hourstable.system import System
 from hourstable.task import Task
 from lines import line_of
 from planes import JOB, POLICY, Plane
-from waits import HALF, LOWER, ground, until
+from waits import HALF, LOWER, counted, ground, until
 
 
 class Disk(System):
@@ -88,6 +88,20 @@ async def test_a_task_serves_while_its_disk_is_full(plane: Plane, tmp_path: Path
     assert ran.stdout.startswith("audit gaps\n") and "audit one" not in ran.stdout, ran
     assert f"gap {gaps[0].file}:{gaps[0].line}: {gaps[0].missing} lines are missing" in ran.stdout
     assert "timely yes" in ran.stdout  # what is there is a run
+
+
+async def test_a_task_renews_in_one_life_while_its_disk_is_full(plane: Plane, tmp_path: Path) -> None:
+    """The first line that the disk does not take is of what the task hears."""
+    disk = Disk()
+    task = Task(plane.url, JOB, 1, logs=tmp_path, policy=plane.policy, timeout=2.0, system=disk)
+    async with task:
+        await until(lambda: task.served() == LOWER)
+        disk.is_full = True
+        lives, before = plane.lives[1], task.renewed.times
+        await until(lambda: task.renewed.times >= before + 3)
+        assert plane.lives[1] == lives and missing(task.metrics) >= 3
+        assert counted(task.metrics.text(), "hourstable_internal_errors_total") == 0
+        disk.is_full = False
 
 
 async def test_a_task_starts_on_a_full_disk(plane: Plane, tmp_path: Path) -> None:

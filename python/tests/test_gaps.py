@@ -89,6 +89,25 @@ def test_a_full_disk_takes_a_line_of_what_is_missing(tmp_path: Path) -> None:
     assert text(tmp_path)[-1] == line(ticket)
 
 
+class FullAtOnce(SmallDisk):
+    """A disk that has no room but for what is allocated first."""
+
+    def allocate(self, file: int, start: int, length: int) -> None:
+        super().allocate(file, start, length)
+        self.room = start + length
+
+
+def test_a_gap_has_room_in_what_is_allocated(tmp_path: Path) -> None:
+    """Whoever fills the rest of the disk."""
+    log, ticket = logged(tmp_path, FullAtOnce(1 << 40)), 10_000
+    with pytest.raises(OSError, match="no space left"):
+        while True:
+            ticket += 1
+            log.append(line(ticket))
+            assert ticket < 100_000
+    assert text(tmp_path)[-1] == f'{{"gap":{{"lines":1,"from":{ticket},"until":{ticket}}}}}'
+
+
 @pytest.mark.parametrize("takes", [0, 1, 10, len(line(1)), len(line(1)) + 1, len(line(1)) + 10])
 def test_a_write_that_fails_tears_no_line(tmp_path: Path, takes: int) -> None:
     system = SmallDisk(1 << 40)

@@ -59,7 +59,7 @@ async def test_a_grant_that_the_library_refuses_is_a_wrong_answer(plane: Plane, 
     faulty = [3]
 
     async def adds(request: web.Request) -> web.StreamResponse | None:
-        if not request.path.endswith("/grant") or not faulty[0]:
+        if not request.path.endswith("/grant") or not faulty[0] or (await request.json()).get("let_in"):
             return None
         faulty[0] -= 1
         answer = await plane.grant(request)

@@ -33,8 +33,10 @@ from hourstable.system import System  # noqa: E402
 from hourstable.tickets import Tickets, real_milliseconds  # noqa: E402
 from serving import Caller, lines_of, running  # noqa: E402
 from stores import opened  # noqa: E402
+from test_failover import Reached  # noqa: E402
 from test_page import begun  # noqa: E402
 from test_service import options  # noqa: E402
+from waits import until as until_told  # noqa: E402
 
 
 class Refusing(System):
@@ -488,6 +490,23 @@ async def test_old_logs_are_read_beside_the_loop(
     assert waited == [True]
 
 
+async def test_the_last_readings_of_old_logs_are_read_beside_the_loop(
+    file: Store, tmp_path: Path, monkeypatch: pytest.MonkeyPatch
+) -> None:
+    async with running(file, tmp_path / "logs") as (_, caller):
+        await begun(caller)
+    goes_on, waited, last_reading = threading.Event(), list[bool](), logs.Log.last_reading
+
+    def slowly(self: logs.Log) -> int:
+        waited.append(goes_on.wait(20))
+        return last_reading(self)
+
+    monkeypatch.setattr(logs.Log, "last_reading", slowly)
+    asyncio.get_running_loop().call_later(0.2, goes_on.set)  # which a loop that waits itself does too late
+    async with running(file, tmp_path / "logs"):
+        assert waited == [True]
+
+
 class Surprising:
     """A store of which one job raises what nobody expects."""
 
@@ -547,3 +566,16 @@ async def test_the_poller_goes_on_whatever_a_job_raises(file: Store, tmp_path: P
             return "third" in plane.jobs
 
         await until(is_seen)
+
+
+async def test_the_poller_goes_on_after_the_store_failed(
+    file: Store, tmp_path: Path, caplog: pytest.LogCaptureFixture
+) -> None:
+    reached: Any = Reached(file)
+    async with running(reached, tmp_path / "logs", 1, shared=True, standby=0.4) as (plane, _):
+        reached.is_cut = True
+        await until_told(lambda: "the store was not read" in caplog.text)
+        reached.is_cut = False
+        async with running(file, tmp_path / "logs", 2, shared=True, standby=0.4) as (_, second):
+            assert (await Caller(second.url, second.session, "third").create()).status == 201
+        await until_told(lambda: "third" in plane.jobs)

@@ -19,6 +19,7 @@ needed.library()
 from hourstable.control import Plane  # noqa: E402
 from hourstable.jobs import Job  # noqa: E402
 from hourstable.library import ended_note  # noqa: E402
+from hourstable.rights import Rights  # noqa: E402
 from hourstable.store import Conflict, Holding, Store, Stored  # noqa: E402
 from serving import HALF, POLICY, Answer, Caller, running  # noqa: E402
 from stores import opened  # noqa: E402
@@ -110,6 +111,20 @@ async def test_a_table_that_was_restored_knows_no_rows(file: Store, tmp_path: Pa
         assert let_in.reading is not None and until(first) <= let_in.reading < until(first) + GUARD / 2
         job_of(plane).drop()
         assert (await caller.grant(1, 2)).status == 200
+
+
+async def test_after_a_restart_a_life_waits_for_the_leases_of_its_own_task(file: Store, tmp_path: Path) -> None:
+    """Also where each lease is stored by itself: until the last one of its task, and not of another one."""
+    async with running(file, tmp_path / "logs", shared=True) as (plane, caller):
+        await begun(caller)
+        first = await caller.grant(1, 1)
+        await asyncio.sleep(GUARD / 2000)
+        second = await caller.grant(2, 1)
+        job_of(plane).drop()
+        waiting = await caller.grant(1, 2)
+        assert refusal(waiting) == ("waiting", 1)
+        assert second.reading is not None and until(second) >= until(first) + GUARD / 2
+        assert 1000 * waiting.json["after"] <= until(first) - second.reading
 
 
 async def renewing(caller: Caller, task: int) -> None:
@@ -295,6 +310,20 @@ async def test_who_is_let_in_at_once(
         assert wrong.status == answer.status
 
 
+async def test_who_shows_not_the_key_of_the_life_before_waits(file: Store, tmp_path: Path) -> None:
+    """Also at the place where that life runs."""
+    async with running(file, tmp_path / "logs") as (_, caller):
+        await begun(caller)
+        unit = Unit(caller, 1, process="p1", **HERE)
+        life = await unit.draw()
+        assert (await unit.grant(life)).status == 200
+        following = await unit.draw()
+        wrong = [{str(life): unit.keys[following]}, {str(life): "0" * 64}, {str(following): unit.keys[life]}]
+        for shown in (*wrong, dict[str, str]()):
+            assert refusal(await unit.grant(following, shown=shown)) == ("waiting", life)
+        assert (await unit.grant(following)).status == 200
+
+
 async def test_grants_need_the_key_of_their_life(file: Store, tmp_path: Path) -> None:
     async with running(file, tmp_path / "logs") as (_, caller):
         await begun(caller)
@@ -305,6 +334,31 @@ async def test_grants_need_the_key_of_their_life(file: Store, tmp_path: Path) ->
         for key in ("", unit.keys[next_life], unit.keys[life][:-1], "\u20ac"):
             told = await unit.grant(life, key=key)
             assert (told.status, told.json["refused"]) == (403, "key")
+
+
+def test_each_key_is_compared_in_constant_time(monkeypatch: pytest.MonkeyPatch) -> None:
+    compared: list[tuple[bytes, bytes]] = []
+    compare, rights = hmac.compare_digest, Rights(bytes(32))
+
+    def noted(known: bytes, given: bytes) -> bool:
+        compared.append((known, given))
+        return compare(known, given)
+
+    monkeypatch.setattr(hmac, "compare_digest", noted)
+    key = hmac.new(bytes(32), b"task 1 life 2", hashlib.sha256).hexdigest()
+    for given, is_key in ((key, True), (key[:-1], False), ("", False)):
+        assert rights.is_key(1, 2, given) == is_key
+    assert compared == [(key.encode(), it.encode()) for it in (key, key[:-1], "")]
+
+
+async def test_a_key_is_of_one_task(file: Store, tmp_path: Path) -> None:
+    async with running(file, tmp_path / "logs") as (_, caller):
+        await begun(caller)
+        one, two = Unit(caller, 1), Unit(caller, 2)
+        life = await one.draw()
+        assert await two.draw() == life and one.keys != two.keys
+        assert (await two.grant(life, key=one.keys[life])).status == 403
+        assert (await two.grant(life)).status == 200
 
 
 async def test_notes_and_loads_need_the_key_of_their_life(file: Store, tmp_path: Path) -> None:
@@ -402,6 +456,20 @@ async def test_an_evicted_life_gets_no_more_leases(file: Store, tmp_path: Path) 
         assert refusal(await here.grant(again)) == ("waiting", life)  # the favoured one comes before it
         assert (await elsewhere.grant(favoured)).status == 200
         assert refusal(await here.grant(life)) == ("overtaken", favoured)
+
+
+async def test_the_key_of_an_evicted_life_lets_nobody_in_at_once(file: Store, tmp_path: Path) -> None:
+    async with running(file, tmp_path / "logs") as (_, caller):
+        await begun(caller)
+        unit = Unit(caller, 1, process="p1", **HERE)
+        life = await unit.draw()
+        assert (await unit.grant(life)).status == 200
+        assert (await caller.post("evict", {"task": 1})).json == {"life": life}
+        following = await unit.draw()
+        waiting = await unit.grant(following)
+        assert refusal(waiting) == ("waiting", life)
+        await asyncio.sleep(waiting.json["after"])
+        assert (await unit.grant(following)).status == 200
 
 
 async def test_who_is_not_favoured_waits_for_a_short_time_alone(file: Store, tmp_path: Path) -> None:

@@ -108,6 +108,18 @@ def test_which_lines_are_not_there(tmp_path: Path) -> None:
     assert log.lacking([line_of(5, "lose", "lost 1")]) != []
 
 
+def test_the_last_reading_of_a_log_is_the_greatest(tmp_path: Path) -> None:
+    """Calls need not stand in the order of their readings, and some have none."""
+    days = iter(["2026-11-27", "2026-11-27", "2026-11-28"])
+    log = Log(tmp_path, "control", JOB, today=lambda: next(days))
+    assert log.last_reading() == 0
+    lines = [line_of(it, "grace", "grace 0", at=at) for it, at in ((1, 5), (2, 9), (3, 7))]
+    log.append(*lines)
+    assert log.last_reading() == 9
+    log.append(line_of(4, "lose", "lost 0"))  # on another day
+    assert log.last_reading() == 9
+
+
 def test_lines_of_a_torn_write_are_missing(tmp_path: Path) -> None:
     lines = [line_of(it, "lose", "lost 0") for it in range(1, 9)]
     Log(tmp_path, "control", JOB, today=lambda: "2026-11-27").append(*lines)

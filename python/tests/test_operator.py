@@ -263,6 +263,9 @@ async def test_who_did_what_is_recorded(tmp_path: Path) -> None:
         drain = await caller.ask("POST", "/jobs/shop/drain", {"task": 3}, {"Hourstable-Request": "by-hand"})
         assert drain.status == 204
         await caller.change(1, 2, [[0, [1]]])
+        assert (await caller.post("evict", {"task": 1})).json == {"life": 0}
+        state = (await caller.ask("DELETE", "/jobs/shop")).json["state"]
+        assert state == "ending"  # what was saved ahead
         found = (await caller.ask("GET", "/record?job=shop")).json["record"]
         assert (await caller.ask("GET", "/record?job=other")).json == {"record": []}
     told = [{name: value for name, value in one.items() if name not in ("at", "request")} for one in found]
@@ -272,6 +275,7 @@ async def test_who_did_what_is_recorded(tmp_path: Path) -> None:
         {"do": "create", "policy": policy, **mine}, {"do": "begin", "task": 3, "life": 1, **mine},
         {"do": "drain", "task": 3, "life": 1, **mine},
         {"do": "evict", "task": 3, "why": "drained", "generation": 2, **mine},
+        {"do": "evict", "task": 1, "life": 0, **mine}, {"do": "end", "state": state, **mine},
     ]
     assert found[2]["request"] == "by-hand"
     async with plane_of(tmp_path, assigner=0) as (_, caller):  # it outlasts the process

@@ -21,7 +21,7 @@ from hourstable.assigner import THINK, JobAssigner  # noqa: E402
 from hourstable.clock import local_clock  # noqa: E402
 from hourstable.desk import LocalDesk  # noqa: E402
 from hourstable.loads import (  # noqa: E402
-    FEW, KEYS, PART, PARTS, Loads, Piece, loads_of_parts, pieces_of_parts,
+    FEW, KEYS, PART, PARTS, Loads, Piece, Reports, loads_of_parts, pieces_of_parts,
 )
 from hourstable.plans import Hysteresis, Planner, loads_over, spread_over  # noqa: E402
 from hourstable.store import Store  # noqa: E402
@@ -165,19 +165,20 @@ async def until(holds: Callable[[], object]) -> None:
         await asyncio.sleep(0.01)
 
 
+@pytest.mark.parametrize(("kind", "name"), [(Planner, "wanted"), (Reports, "joined")], ids=["plan", "reports"])
 async def test_an_assigner_thinks_beside_the_loop(
-    file: Store, tmp_path: Path, monkeypatch: pytest.MonkeyPatch
+    kind: type, name: str, file: Store, tmp_path: Path, monkeypatch: pytest.MonkeyPatch
 ) -> None:
-    """While it does, grants are answered."""
+    """While it makes a plan, and while it joins what tasks reported, grants are answered."""
     goes_on, begun = threading.Event(), threading.Event()
-    wanted = Planner.wanted
+    thinks = getattr(kind, name)
 
-    def slow(*given: Any) -> bytes | None:
+    def slow(*given: Any) -> Any:
         begun.set()
         assert goes_on.wait(20), "the loop stands still"
-        return wanted(*given)
+        return thinks(*given)
 
-    monkeypatch.setattr(Planner, "wanted", slow)
+    monkeypatch.setattr(kind, name, slow)
     async with running(file, tmp_path / "logs") as (plane, caller):
         await caller.create()
         await caller.grant(1)

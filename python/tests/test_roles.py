@@ -17,6 +17,7 @@ needed.library()
 from hourstable import access, callers, roles  # noqa: E402
 from hourstable.callers import Caller as Known  # noqa: E402
 from hourstable.callers import Callers, Role  # noqa: E402
+from hourstable.callers import Known as KnownBy  # noqa: E402
 from hourstable.control import Plane  # noqa: E402
 from hourstable.store import Store  # noqa: E402
 from serving import HALF, POLICY, Answer, Caller, assignment, running  # noqa: E402
@@ -123,6 +124,7 @@ TABLE = [  # nobody, a stranger | reader, of cart | task shop-1, shop, cart | as
     Asked("POST /jobs/{job}/evict", 200, "?? -- --- -- +", {"task": 3}),
     Asked("DELETE /jobs/{job}", 200, "?? -- --- -- +"),
     Asked("POST /jobs/{job}/hold", 204, "?? -- --- -- +", {"process": 5}),
+    Asked("POST /jobs/{job}/look", 204, "?? -- --- -- +", {}),
     Asked("POST /jobs/{job}/evict", 200, "?? -- --- -- +", {"task": 2}),
     Asked("DELETE /jobs/{job}", 200, "?? -- --- -- +"),
 ]
@@ -375,6 +377,21 @@ def test_a_caller_is_packed_for_another_plane() -> None:
             Known.unpacked(wrong)
 
 
+def test_by_what_a_caller_is_known() -> None:
+    """A header that is there decides alone, and who shows names of two callers is none of them."""
+    shop, cart = (Known(name, Role.TASK, frozenset({name})) for name in ("shop", "cart"))
+    found = Callers([
+        KnownBy(shop, ("the-secret-of-shop",), ("shop.local",)),
+        KnownBy(cart, ("the-secret-of-cart",), ("cart.local",)),
+    ]).find
+    assert found("Bearer the-secret-of-shop", ["cart.local"]) == shop
+    assert found(None, ["else.local", "cart.local"]) == cart
+    for wrong in ("Basic the-secret-of-shop", "the-secret-of-shop", "Bearer", "Bearer the-secret-of-sho"):
+        assert found(wrong, []) is None and found(wrong, ["cart.local"]) is None, wrong
+    assert found(None, ["shop.local", "cart.local"]) is None
+    assert found(None, []) is None
+
+
 async def test_a_plane_calls_for_another_caller(plain: Plain) -> None:
     """Only an admin may, and what is done is what that caller may do."""
     task = {access.FORWARDED: Known("shop-1", Role.TASK, frozenset({"shop"}), 1).packed()}
@@ -391,9 +408,8 @@ async def test_a_plane_calls_for_another_caller(plain: Plain) -> None:
 
 def test_each_test_that_the_manual_names() -> None:
     """The tables of who trusts whom, and of what who has broken into a place can do."""
-    page = (TOP / "docs/OPERATIONS.md").read_text(encoding="utf-8")
-    section = page.partition("### Who trusts whom\n")[2].partition("\n### ")[0]
-    named = re.findall(r"`([a-z_]+): ([a-z0-9_]+)`", section)
+    page = (TOP / "docs/SECURITY.md").read_text(encoding="utf-8")
+    named = re.findall(r"`([a-z_]+): ([a-z0-9_]+)`", page)
     assert len(named) >= 25
     for file, name in named:
         text = (TOP / f"python/tests/test_{file}.py").read_text(encoding="utf-8")

@@ -195,6 +195,29 @@ async def test_the_lock_outlasts_what_it_serves_by(
             lease.check()
 
 
+async def test_the_lock_outlasts_a_lease_that_cannot_be_released(
+    file: Store, tmp_path: Path, monkeypatch: pytest.MonkeyPatch
+) -> None:
+    """As where memory lacks for the note."""
+    async with owned(file, tmp_path) as (_, caller):
+        task = task_of(caller.url, tmp_path)
+        await task.start()
+        await until(lambda: bool(task.served()))
+        serves, freed = list[bool](), task._lives.close
+
+        def release(_: str) -> bytes:
+            raise MemoryError("hourstable")
+
+        def close() -> None:
+            serves.append(may_serve(task))
+            freed()
+
+        monkeypatch.setattr(task._leases, "release", release)
+        monkeypatch.setattr(task._lives, "close", close)
+        await task.stop()
+        assert serves == [False] and not may_serve(task)
+
+
 async def test_a_forked_child_serves_nothing(file: Store, tmp_path: Path) -> None:
     async with owned(file, tmp_path) as (_, caller):
         async with task_of(caller.url, tmp_path) as task:
@@ -203,8 +226,11 @@ async def test_a_forked_child_serves_nothing(file: Store, tmp_path: Path) -> Non
             reading, writing = os.pipe()
             child = os.fork()
             if not child:
-                is_held = is_continuous(lease)
-                os.write(writing, f"{may_serve(task)} {is_held} {task.state}".encode())
+                try:
+                    told = f"{may_serve(task)} {is_continuous(lease)} {task.state}"
+                except BaseException as why:  # else it goes on with the tests of its parent
+                    told = repr(why)
+                os.write(writing, told.encode())
                 time.sleep(60)
                 os._exit(0)
             try:
@@ -220,8 +246,9 @@ async def test_a_forked_child_serves_nothing(file: Store, tmp_path: Path) -> Non
 
 
 async def test_a_life_that_is_dropped_is_followed_at_once(file: Store, tmp_path: Path) -> None:
-    """The next life of the process shows the key of the one before, whose leases are freed then."""
-    async with owned(file, tmp_path, {**LONG, "guard": 20_000, "bridge": 20_000}) as (plane, caller):
+    """The next life of the process shows the key of the one before, whose leases are freed then, and not at their
+    ends."""
+    async with owned(file, tmp_path, {**LONG, "guard": 60_000, "bridge": 60_000}) as (plane, caller):
         async with task_of(caller.url, tmp_path) as task:
             await until(lambda: bool(task.served()))
             task._drop_life()

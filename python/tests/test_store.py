@@ -5,6 +5,7 @@ import re
 import sqlite3
 import subprocess
 import sys
+import threading
 import time
 from collections import Counter
 from collections.abc import Awaitable, Callable
@@ -15,12 +16,14 @@ import pytest
 
 import needed
 from conftest import folder_for_engines
+from hourstable import store_sqlite
 from hourstable.demo import engines
 from hourstable.store import (
-    LAST_LIFE, Conflict, Life, LivesSpent, NoSuchJob, Store, Stored, StoreFailed, open_store,
+    LAST_LIFE, Conflict, Holding, Life, LivesSpent, NoSuchJob, Store, Stored, StoreFailed, StoreRefused, open_store,
     store_of,
 )
 from hourstable.store_sqlite import SqliteStore
+from hourstable.waiting import within
 from members import members_of_etcd
 from stores import opened
 
@@ -254,6 +257,27 @@ async def test_etcd_that_wants_certificates(certificates: Path) -> None:
         store_of(f"etcds://127.0.0.1:1?ca={ca}.missing")
 
 
+async def test_a_recovery_compares_version_and_holder(store: Store, job: str) -> None:
+    first = await store.create(job, POLICY, b"one")
+    second = await store.swap(job, first, b"two", "line", Holding("", "a", "by a"))
+    for version, before in ((first, "a"), (second, ""), (second, "b")):
+        with pytest.raises(Conflict):
+            await store.recover(job, version, b"lost", "{}", Holding(before, "r", "by r"))
+    assert await store.load(job) == Stored(second, POLICY, b"two", "line", "a", "by a")
+    await store.recover(job, second, b"three", '{"1": [7, 0]}', Holding("a", "r", "by r"))
+    stored = await store.load(job)
+    assert stored is not None and stored.version > second
+    assert stored[2:] == (b"three", "line", "r", "by r")
+    assert await store.lives(job) == {1: Life(7, 0)}
+
+
+async def test_a_call_that_is_late_fails(file: Store) -> None:
+    """Whatever the engine waits for."""
+    file.deadline = 0.1
+    with pytest.raises(StoreFailed, match=r"no answer in 0\.1 s"):
+        await within(5, file.in_time(asyncio.sleep(60)))
+
+
 def test_urls_that_are_no_store() -> None:
     for url in (
         "", "sqlite:", "jobs.sqlite", "mysql://host/db", "etcd://", "etcd://host:1/path",
@@ -286,6 +310,22 @@ async def test_another_program_that_opens_and_closes_the_file(file: Store, tmp_p
     for _ in range(3):
         assert await seen() == f"[({version},)]"
         version = await file.swap("shop", version, b"{}", "line")
+
+
+async def test_a_file_of_sqlite_that_answers_too_late_is_no_refusal(
+    tmp_path: Path, monkeypatch: pytest.MonkeyPatch
+) -> None:
+    """A plane that starts waits for it, and does not end."""
+    goes_on = threading.Event()
+    monkeypatch.setattr(store_sqlite, "_make_file", lambda _: goes_on.wait(60))
+    store = store_of(f"sqlite:{tmp_path}/jobs.sqlite", 0.1)
+    try:
+        with pytest.raises(StoreFailed, match="no answer in 0.1 s") as failed:
+            await store.open()
+        assert not isinstance(failed.value, StoreRefused)
+    finally:
+        goes_on.set()
+        await store.close()
 
 
 async def test_writes_of_sqlite_are_synced(file: Store) -> None:

@@ -11,11 +11,11 @@ import needed
 
 needed.library()
 
-from hourstable.jobs import last_in  # noqa: E402
 from hourstable.library import Policy, Table  # noqa: E402
 from hourstable.plans import message_of  # noqa: E402
 from hourstable.store import Conflict, Damaged, Store, Stored  # noqa: E402
 from hourstable.store_rows import Rows  # noqa: E402
+from hourstable.table_calls import last_in  # noqa: E402
 from stores import opened  # noqa: E402
 
 POLICY = '{"guard":1000}'

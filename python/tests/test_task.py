@@ -16,12 +16,13 @@ from aiohttp import web
 
 import needed
 from hourstable import logs
-from hourstable.calls import Rejected
+from hourstable.calls import Rejected, Unreachable
 from hourstable.library import boottime_ticks
 from hourstable.ranges import KEYS
 from hourstable.task import ClockBroken, Denied, Drift, LeaseLost, Task
-from hourstable.tickets import Tickets
-from hourstable.waiting import within
+from hourstable.system import System
+from hourstable.tickets import Tickets, milliseconds_of, real_milliseconds
+from hourstable.waiting import Backoff, within
 from planes import JOB, Plane
 
 HALF = 1 << 62
@@ -70,6 +71,21 @@ async def test_tickets_stand_apart_from_logs(plane: Plane, tmp_path: Path) -> No
     task = Task(plane.url, JOB, 1, logs=None, state=tmp_path / "other")
     assert (tmp_path / "other" / JOB / "task-1.ticket").is_file()
     await task.stop()
+
+
+class DayAhead(System):
+    """A system whose real time is a day ahead."""
+
+    def real_nanoseconds(self) -> int:
+        return super().real_nanoseconds() + 86_400_000_000_000
+
+
+async def test_the_real_time_of_a_task_moves_no_tickets(plane: Plane, task_of: Callable[..., Task]) -> None:
+    """It follows those of planes, whose real time is seen to."""
+    async with task_of(system=DayAhead()) as task:
+        await until(lambda: task.served() == LOWER)
+        hours = (milliseconds_of(plane.tickets.draw()) - real_milliseconds()) / 3_600_000
+        assert -1 < hours < 1
 
 
 async def test_a_table_whose_clock_stood_still_for_longer_than_a_lease(
@@ -125,8 +141,8 @@ async def test_keys_are_served_and_denied(
         assert await ground(task, "hello") == ""
         assert await ground(task, "abc") == "not-owned"
     log = calls(tmp_path)
-    assert log[:7] == [
-        "open: opened 0", "sample: sampled", "start: started 1", "hear: heard 1",
+    assert log[:8] == [
+        "open: opened 0", "sample: sampled", "start: started 1", "sample: sampled", "hear: heard 1",
         "hold: handle life 1 position 2", "check: continuous", "hold: denied not-owned 1",
     ]
     assert log[-1].startswith("release: released life 1 number ")
@@ -281,14 +297,44 @@ async def test_a_clock_that_is_too_old_stops_the_task(
         assert b'hourstable_clock_behind_total{job="shop",task="1"} 1.0' in task.metrics.text()
 
 
+async def test_a_task_serves_until_its_lease_ends(plane: Plane, task_of: Callable[..., Task]) -> None:
+    """Its clock is not too old before."""
+    stands: list[int] = []  # where the local clock stands still, once it does
+    async with task_of(local_clock=lambda: stands[-1] if stands else boottime_ticks()) as task:
+        await until(lambda: task.served() == LOWER)
+        silent(plane)
+        assert task._leases is not None
+        clock, guard = task._leases.clock, plane.policy["guard"]
+        stands.append(clock.newest + guard - 50)
+        assert await ground(task, "hello") == ""
+        stands.append(clock.newest + guard + 1)
+        assert await ground(task, "hello") in ("ended", "clock-behind")
+
+
+async def test_a_task_with_a_lease_asks_again_soon(plane: Plane, task_of: Callable[..., Task]) -> None:
+    """It waits for a twentieth of a guard term at most: a plane that takes the job over has it late as it is."""
+    why, backoff = Unreachable("503", 60.0), Backoff(lambda: 1.0, most=2.0)
+    async with task_of() as task:
+        await until(lambda: task.served() == LOWER)
+        waits = [task._wait_after(why, backoff) for _ in range(8)]
+        assert waits == [plane.policy["guard"] / 20_000] * 8
+    assert task._wait_after(why, backoff) == plane.policy["guard"] / 1000  # it has none any more
+
+
 async def test_a_clock_that_breaks_its_drift_ends_the_task(
     plane: Plane, task_of: Callable[..., Task], tmp_path: Path
 ) -> None:
-    """The local clock goes at half its rate, and the drift that is given is 1 in 1,000."""
-    begun = boottime_ticks()
-    slow = lambda: (boottime_ticks() + begun) // 2  # noqa: E731
+    """Once it has a lease, the local clock goes at half its rate, and the drift that is given is 1 in 1,000."""
+    begun: list[int] = []
+
+    def slow() -> int:
+        at = boottime_ticks()
+        return (at + begun[0]) // 2 if begun else at
+
     task = task_of(local_clock=slow, drift=Drift(1, 1000), oldest=10_000)
     await task.start()
+    await until(lambda: task.served() == LOWER)
+    begun.append(boottime_ticks())
     with pytest.raises(ClockBroken):
         await within(20.0, task.wait())
     assert task.clock_behind_total == 1
@@ -300,13 +346,13 @@ async def test_a_clock_that_breaks_its_drift_ends_the_task(
 async def test_a_grant_that_comes_too_late_is_not_heard(
     plane: Plane, task_of: Callable[..., Task], tmp_path: Path
 ) -> None:
-    """The process is suspended for 2,050 ms while the first grant, of 2 s, is on its way. The value
+    """The process is suspended for 2,050 ms while its first grant, of 2 s, is on its way. The value
     of its clock is then 2,050 ms ahead of the table and does not fall, so that further grants may
     come too late, for 50 ms."""
     slept = [0]
 
     async def fault(request: web.Request) -> web.StreamResponse | None:
-        if not request.path.endswith("/grant") or slept[0]:
+        if not request.path.endswith("/grant") or slept[0] or (await request.json()).get("let_in"):
             return None
         answer = await plane.grant(request)
         slept[0] = 2050
@@ -375,6 +421,8 @@ async def test_loads_are_reported(plane: Plane, task_of: Callable[..., Task]) ->
         for _ in range(3):
             await ground(task, "hello")
         await until(lambda: any(told["loads"] for told in plane.loads))
+        reports = len(plane.loads)
+        await until(lambda: len(plane.loads) >= reports + 2)  # which have none of them
     told = [it for it in plane.loads if it["loads"]]
     # The slice key of "hello" is 0x1679286... (63 bits); 1,024 parts of the keys are 2^53 wide.
     hello = 1_619_368_272_448_737_671

@@ -4,6 +4,7 @@ that asked it."""
 import asyncio
 import logging
 import time
+from collections import Counter
 from collections.abc import AsyncIterator, Awaitable, Callable
 from contextlib import asynccontextmanager
 from pathlib import Path
@@ -85,12 +86,19 @@ def unless_created(answers: Answers) -> Answers:
 async def test_a_wrong_answer_ends_no_task(
     what: str, plane: Plane, tmp_path: Path, caplog: pytest.LogCaptureFixture
 ) -> None:
-    """The only plane answers wrongly for a while, to a task that serves."""
+    """The only plane answers wrongly for a while, to a task that serves: also to its calls for a lease."""
     answers, word = WRONG[what]
+    asked: Counter[str] = Counter()
+
+    async def fault(request: web.Request) -> web.StreamResponse | None:
+        asked[request.path.rpartition("/")[2]] += 1
+        return await unless_created(answers)(request)
+
     async with Task(plane.url, JOB, 1, logs=tmp_path, policy=POLICY, timeout=2.0, report=0.3) as task:
         waiting = asyncio.create_task(task.wait())
         await until(lambda: task.served() == LOWER)
-        plane.fault = unless_created(answers)
+        plane.fault = fault
+        await until(lambda: min(asked[call] for call in ("grant", "phase", "loads")) >= 2)
         name = "hourstable_control_wrong_answers_total"
         await until(lambda: counted(task.metrics.text(), name, answer=word) >= 3)
         assert task.is_ready() and not waiting.done()
@@ -146,6 +154,29 @@ async def test_another_plane_is_asked(what: str, tmp_path: Path) -> None:
             assert counted(task.metrics.text(), "hourstable_control_unreachable_total") == 0
         async with Router([url, plane.url], JOB) as router:
             await until(lambda: router.generation == 1)
+    await plane.stop()
+
+
+async def test_another_plane_is_asked_for_a_lease(tmp_path: Path) -> None:
+    """Each other request for a lease is answered by something else than a plane. The task knows the plane as two."""
+    plane = await Plane(tmp_path, guard=6000).start()
+    plane.settle(1, [(0, 1), (HALF, 2)])
+    asked: list[str] = []
+
+    async def fault(request: web.Request) -> web.StreamResponse | None:
+        if not request.path.endswith("/grant"):
+            return None
+        asked.append(request.path)
+        return await WRONG["an old secret"][0](request) if len(asked) % 2 else None
+
+    urls = [plane.url, plane.url]
+    async with Task(urls, JOB, 1, logs=tmp_path, policy=plane.policy, timeout=2.0) as task:
+        await until(lambda: task.served() == LOWER)
+        plane.fault = fault
+        before = task.renewed.times
+        await until(lambda: task.renewed.times >= before + 2)
+        assert len(asked) >= 4
+        assert counted(task.metrics.text(), "hourstable_control_unreachable_total") == 0
     await plane.stop()
 
 

@@ -22,7 +22,7 @@ from typing import Any
 from aiohttp import web
 
 from hourstable.callers import secrets_in
-from hourstable.demo.shelf import Session, Shelf, Taken
+from hourstable.demo.shelf import Late, Locked, Session, Shelf
 from hourstable.library import slice_key
 from hourstable.ranges import Ranges, holds
 from hourstable.state import tickets_in
@@ -61,15 +61,15 @@ class Cache:
             if hold.continuous():
                 return hold, session
         hold = self.task.hold(key)
-        self.memory[key] = hold, self.shelf.newest(key)
+        self.memory[key] = hold, self.shelf.take(key, hold.token)
         return self.memory[key]
 
-    def keep(self, key: str, session: Session) -> None:
-        """Puts a session on the shelf. Raises Taken, and forgets what memory has, if a write of a
-        task that has lost the key meanwhile got there first."""
+    def keep(self, key: str, token: bytes, session: Session) -> None:
+        """Puts a session on the shelf. Raises Late, and forgets what memory has, if another task
+        took the key meanwhile."""
         try:
-            self.shelf.fill(key, session)
-        except Taken:
+            self.shelf.put(key, token, session)
+        except Late:
             self.memory.pop(key, None)
             raise
 
@@ -80,7 +80,7 @@ class Cache:
 
     async def write(self, request: web.Request) -> web.Response:
         key, asked = request.match_info["key"], await request.json()
-        taken: Taken | None = None
+        late: Late | None = None
         async with self.turns.setdefault(key, asyncio.Lock()):
             async with self.task.serving(key) as lease:
                 begun = time.monotonic_ns()
@@ -91,14 +91,14 @@ class Cache:
                     lease.check()
                     try:
                         if asked["keep"]:
-                            self.keep(key, session)
+                            self.keep(key, lease.token, session)
                         self.memory[key] = hold, session
-                    except Taken as why:
-                        taken = why
+                    except Late as why:
+                        late = why
                 ended = time.monotonic_ns()
             self.spans.note(key, f"write {asked['id']}", begun, ended)
-        if taken is not None:
-            raise taken
+        if late is not None:
+            raise late
         return web.json_response({"version": session.version})
 
     async def read(self, request: web.Request) -> web.Response:
@@ -143,7 +143,7 @@ async def denials(request: web.Request, handler: Any) -> web.StreamResponse:
         return answered
     except Denied as denied:
         return web.json_response({"denied": denied.ground}, status=421)
-    except (LeaseLost, Taken) as lost:
+    except (LeaseLost, Late, Locked) as lost:
         return web.json_response({"lost": type(lost).__name__}, status=503)
 
 
@@ -165,7 +165,7 @@ async def run(words: argparse.Namespace) -> None:
         on_lose=lambda ranges, _: lose(cache, ranges, words.fail),
     )
     spans = Spans(folder / f"spans-{words.task}.jsonl", words.task)
-    cache = Cache(task, Shelf(folder / "shelf", f"task-{words.task}"), spans, words.work)
+    cache = Cache(task, Shelf(folder / "shelf"), spans, words.work)
     app = web.Application(middlewares=[denials])
     app.router.add_put("/sessions/{key}", cache.write)
     app.router.add_get("/sessions/{key}", cache.read)

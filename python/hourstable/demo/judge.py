@@ -15,7 +15,7 @@ from collections.abc import Iterator
 from pathlib import Path
 from typing import Any, NamedTuple
 
-IDS = 32  # how many ids of writes a slot has
+IDS = 32  # how many ids of writes a line of the shelf has
 
 
 class Span(NamedTuple):
@@ -68,33 +68,40 @@ def overlaps(folder: Path) -> tuple[list[str], int]:
     return faults, sum(map(len, spans.values()))
 
 
-def slots(shelf: Path) -> dict[str, dict[int, list[str]]]:
-    """Returns the ids of each version of each session on the shelf."""
-    made: dict[str, dict[int, list[str]]] = defaultdict(dict)
-    for row in shelf.glob("key-*"):
-        key = urllib.parse.unquote(row.name.removeprefix("key-"))
-        for slot in row.iterdir():
-            made[key][int(slot.name)] = json.loads(slot.read_text())[2]
+Rows = dict[str, list[tuple[str, int, list[str]]]]
+
+
+def rows_of(shelf: Path) -> Rows:
+    """Returns what the shelf took of each session, in its order: tokens, versions, and the ids of the last writes."""
+    made: Rows = {}
+    for path in shelf.glob("key-*"):
+        key = urllib.parse.unquote(path.name.removeprefix("key-"))
+        lines = path.read_text().split("\n")[:-1]  # without a line that a killed process left torn
+        made[key] = [(token, version, ids) for token, version, _, ids in map(json.loads, lines)]
     return made
 
 
-def broken_rows(rows: dict[str, dict[int, list[str]]]) -> Iterator[str]:
-    """Finds sessions that a writer began anew although a write was there."""
+def broken_rows(rows: Rows) -> Iterator[str]:
+    """Finds sessions that a writer began anew although a write was there, and tokens that fall."""
     for key, row in sorted(rows.items()):
-        for version in range(1, max(row) + 1):
-            if version not in row:
-                yield f"{key}: version {version} is missing"
-            elif version > 1 and row[version][1:] != row.get(version - 1, [])[: IDS - 1]:
-                yield f"{key}: version {version} is not made of version {version - 1}"
+        fence, before = "", 0
+        ids: list[str] = []
+        for token, version, now in row:
+            if token < fence:
+                yield f"{key}: version {version} has the token {token} after {fence}"
+            if (version, now) != (before, ids) and (version, now[1:]) != (before + 1, ids[: IDS - 1]):
+                yield f"{key}: version {version} is not made of version {before}"
+            fence, before, ids = token, version, now
 
 
-def lost_writes(folder: Path, rows: dict[str, dict[int, list[str]]]) -> tuple[list[str], int]:
+def lost_writes(folder: Path, rows: Rows) -> tuple[list[str], int]:
     """Finds acknowledged writes that the shelf does not have."""
     faults, writes = [], 0
+    there = {(key, version, write) for key, row in rows.items() for _, version, ids in row for write in ids}
     for what, key, write, version, _, _ in lines_of(folder, "acks-*.jsonl"):
         if what == "write":
             writes += 1
-            if write not in rows.get(key, {}).get(version, []):
+            if (key, version, write) not in there:
                 faults.append(f"{key}: write {write} was acknowledged as version {version}")
     return faults, writes
 
@@ -122,7 +129,7 @@ def stale_reads(folder: Path) -> tuple[list[str], int]:
 def judge(folder: Path) -> Verdict:
     """Judges a run of the cache from what is in its folder."""
     faults, spans = overlaps(folder)
-    rows = slots(folder / "shelf")
+    rows = rows_of(folder / "shelf")
     faults += broken_rows(rows)
     lost, writes = lost_writes(folder, rows)
     stale, reads = stale_reads(folder)
