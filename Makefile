@@ -25,8 +25,8 @@ release: ## run what is too long for the gate: all wrong bodies, each refused al
 bench: ## measure the steps of the machines at two sizes
 	@bench/run
 
-docs: ## make docs/API.md anew, and check the pages
-	@docs/api && tests/docs/run
+docs: ## make build/API.md of the sources, and check the pages
+	@docs/api build/API.md && tests/docs/run
 
 lint: ## check types, form and scripts
 	@tools/lint

@@ -62,7 +62,8 @@ class Plane:
 def running(store: str, folder: Path, shared: bool, assigner: int = 0) -> Iterator[Plane]:
     """A control plane as hourstable-service starts it, with no limit to the rate of grants."""
     words = [sys.executable, "-m", "hourstable.command", "control", "--store", store, "--listen", "127.0.0.1:0"]
-    words += ["--logs", str(folder), "--assigner", str(assigner), "--grants", "1000000", "--most-connections", "4096"]
+    words += ["--logs", str(folder), "--assigner", str(assigner), "--grants", "1000000"]
+    words += ["--most-connections", "4096", "--most-connections-of-peer", "4096"]
     words += ["--shared" if shared else "--alone"]
     environment = {**os.environ, "PYTHONPATH": str(PACKAGE)}
     with open(f"{folder}.out", "w", encoding="utf-8") as out:
@@ -138,5 +139,6 @@ def ask(port: int, requests: list[bytes], seconds: float, told: "Queue[Answers]"
 def request_of(method: str, path: str, body: object = None) -> bytes:
     """Returns the bytes of a request, on a connection that is kept."""
     data = b"" if body is None else json.dumps(body).encode()
-    lines = [f"{method} {path} HTTP/1.1", "Host: here", "Content-Type: application/json", f"Content-Length: {len(data)}"]
+    lines = [f"{method} {path} HTTP/1.1", "Host: 127.0.0.1", "Content-Type: application/json"]
+    lines.append(f"Content-Length: {len(data)}")
     return "\r\n".join([*lines, "", ""]).encode() + data

@@ -1,4 +1,4 @@
-/* Assigners: what one does next, by docs/MODEL.md. */
+/* Assigners: what one does next, by docs/verification/MODEL.md. */
 #include "checks.h"
 
 static void next_is(struct hs_place *place, uint64_t at, const struct hs_phase *phase, uint32_t wanted, uint32_t action,

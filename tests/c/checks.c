@@ -6,7 +6,7 @@
 #include <string.h>
 
 #define LOWEST HS_OTHER_JOB
-#define HIGHEST HS_TOTAL_RANGE
+#define HIGHEST HS_FENCED
 
 const struct hs_policy policy = {
     .low = 1, .high = 1, .skew = 10, .guard = 100, .bridge = 200, .job = 1000, .numbers = 1000};

@@ -1,4 +1,4 @@
-/* Clocks. The values were worked out by hand, from the bound that docs/MODEL.md states. */
+/* Clocks. The values were worked out by hand, from the bound that docs/verification/MODEL.md states. */
 #include "checks.h"
 
 #include <string.h>

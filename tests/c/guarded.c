@@ -164,6 +164,20 @@ int32_t guarded_slicelet_hold_at(const struct hs_place *place, uint64_t slice_ke
     return returned(hs_slicelet_hold_at(READ_PLACE, slice_key, at, WRITTEN(out), TOLD));
 }
 
+int32_t guarded_slicelet_token(const struct hs_place *place, uint64_t most, uint32_t epoch, const uint8_t *key,
+                               size_t key_len, uint64_t at, struct hs_token *out) {
+    return returned(hs_slicelet_token(READ_PLACE, most, epoch, KEY, at, WRITTEN(out)));
+}
+
+int32_t guarded_slicelet_token_at(const struct hs_place *place, uint64_t most, uint32_t epoch, uint64_t slice_key,
+                                  uint64_t at, struct hs_token *out) {
+    return returned(hs_slicelet_token_at(READ_PLACE, most, epoch, slice_key, at, WRITTEN(out)));
+}
+
+int32_t guarded_fence_accept(struct hs_token *greatest, const struct hs_token *token) {
+    return returned(hs_fence_accept(WRITTEN(greatest), READ(token)));
+}
+
 int32_t guarded_slicelet_check(const struct hs_place *place, const struct hs_key_handle *handle, uint64_t at) {
     return returned(hs_slicelet_check(READ_PLACE, READ(handle), at));
 }

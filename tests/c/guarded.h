@@ -41,6 +41,11 @@ int32_t guarded_slicelet_hold(const struct hs_place *place, const uint8_t *key, 
 int32_t guarded_slicelet_serve_at(const struct hs_place *place, uint64_t slice_key, uint64_t at, struct hs_told *told);
 int32_t guarded_slicelet_hold_at(const struct hs_place *place, uint64_t slice_key, uint64_t at,
                                  struct hs_key_handle *out, struct hs_told *told);
+int32_t guarded_slicelet_token(const struct hs_place *place, uint64_t most, uint32_t epoch, const uint8_t *key,
+                               size_t key_len, uint64_t at, struct hs_token *out);
+int32_t guarded_slicelet_token_at(const struct hs_place *place, uint64_t most, uint32_t epoch, uint64_t slice_key,
+                                  uint64_t at, struct hs_token *out);
+int32_t guarded_fence_accept(struct hs_token *greatest, const struct hs_token *token);
 int32_t guarded_slicelet_check(const struct hs_place *place, const struct hs_key_handle *handle, uint64_t at);
 int32_t guarded_slicelet_enter(const struct hs_place *place, struct hs_task_clock *clock, uint64_t now,
                                const uint8_t *key, size_t key_len, struct hs_block *block, uint8_t *out, size_t out_len,
@@ -135,6 +140,9 @@ int32_t guarded_clock_evidence(const uint8_t *job, size_t job_len, const uint8_t
 #define hs_slicelet_hold guarded_slicelet_hold
 #define hs_slicelet_serve_at guarded_slicelet_serve_at
 #define hs_slicelet_hold_at guarded_slicelet_hold_at
+#define hs_slicelet_token guarded_slicelet_token
+#define hs_slicelet_token_at guarded_slicelet_token_at
+#define hs_fence_accept guarded_fence_accept
 #define hs_slicelet_check guarded_slicelet_check
 #define hs_slicelet_enter guarded_slicelet_enter
 #define hs_slicelet_enter_at guarded_slicelet_enter_at

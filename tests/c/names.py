@@ -43,7 +43,7 @@ def member_of(c_type: str, length: str) -> Any:
     struct = re.fullmatch(r"struct hs_(\w+) ", c_type)
     member = class_of(struct[1]) if struct else {
         "void *": ctypes.c_void_p, "uint64_t ": ctypes.c_uint64, "uint32_t ": ctypes.c_uint32,
-        "int32_t ": ctypes.c_int32,
+        "int32_t ": ctypes.c_int32, "uint8_t ": ctypes.c_uint8,
     }[c_type]
     return member * int(length) if length else member
 

@@ -96,7 +96,9 @@ def check_refusals() -> None:
         (38, {"until": 1000}, "NOT_YET", {"until": 1000}, "not-yet 1000"),
         (45, {}, "WEIGHT_RANGE", {}, "weight-range"),
         (46, {}, "TOTAL_RANGE", {}, "total-range"),
-        (47, {}, "CODE 47", {}, "code 47"),
+        (47, {}, "MANY_OWNERS", {}, "many-owners"),
+        (48, {}, "FENCED", {}, "fenced"),
+        (49, {}, "CODE 49", {}, "code 49"),
         (-19, {}, "CODE -19", {}, "code -19"),
         (-21, {}, "CODE -21", {}, "code -21"),
     ]

@@ -39,6 +39,8 @@ static void refuse_slicelet(struct hs_place *place) {
     HOLDS(handle.task == 2 && handle.slice_key == 5 && handle.position == 1 && handle.life == 1);
     HOLDS(tells(UNTOLD, UNTOLD, UNTOLD, UNTOLD, UNTOLD));
     IS(hs_slicelet_check(place, &handle, 5), HS_OTHER_PLACE);
+    IS(hs_slicelet_token(place, 1, 5, HELLO, 5, (struct hs_token *)out), HS_OTHER_PLACE);
+    IS(hs_slicelet_token_at(place, 1, 5, 5, 5, (struct hs_token *)out), HS_OTHER_PLACE);
     IS(hs_slicelet_held(place, HS_GUARD, &held), HS_OTHER_PLACE);
     HOLDS(held.number == 5 && held.generation == 5 && held.until == 5);
     IS(hs_slicelet_permitted(place, 5, &left, 1, &needed), HS_OTHER_PLACE);

@@ -39,6 +39,9 @@ static void reads_served(const struct hs_place *task, const struct hs_key_handle
     HOLDS(hs_slicelet_hold(task, HELLO, 6, &taken, &served) == HS_DONE);
     HOLDS(taken.slice_key == handle->slice_key && taken.position == handle->position);
     HOLDS(hs_slicelet_hold_at(task, handle->slice_key, 6, &taken, &served) == HS_DONE);
+    struct hs_token token = {{0}};
+    HOLDS(hs_slicelet_token(task, 1, 9, HELLO, 6, &token) == HS_DONE && token.bytes[11] == 3);
+    HOLDS(hs_slicelet_token_at(task, 1, 8, handle->slice_key, 6, &token) == HS_DONE && token.bytes[3] == 8);
     HOLDS(hs_slicelet_check(task, handle, 6) == HS_DONE);
     HOLDS(hs_slicelet_check(task, handle, 95) == HS_BROKEN);
 }

@@ -225,6 +225,54 @@ static void two_leases(void) {
     hs_place_free(&place);
 }
 
+/* Whether a token is of an epoch, a generation and a life that are below 256. */
+static int is_token(const struct hs_token *token, uint8_t epoch, uint8_t generation, uint8_t life) {
+    const uint8_t bytes[16] = {[3] = epoch, [11] = generation, [15] = life};
+    return memcmp(token->bytes, bytes, sizeof bytes) == 0;
+}
+
+/* The greatest generation of the leases that cover the key, live or ended. */
+static void tokens(void) {
+    struct hs_place place = serving_task();
+    const char *bridge = MESSAGE("grant", "\"ends\":99,\"generation\":4,\"kind\":\"bridge\",\"life\":1,\"number\":9,"
+                                          "\"ranges\":[[0,4611686018427387904]],\"task\":2,\"until\":109");
+    struct hs_token token = {{7, [15] = 7}}, before = token;
+    IS(hs_slicelet_token(&place, 2, 9, HELLO, 95, &token), HS_MANY_OWNERS);
+    IS(hs_slicelet_token(&place, 1, 9, HELLO, 95, &token), HS_ENDED);
+    IS(hs_slicelet_token(&place, 1, 9, HELLO, 0, &token), HS_CLOCK_BACK);
+    IS(hs_slicelet_token_at(&place, 2, 9, (uint64_t)1 << 63, 6, &token), HS_WRONG_FORM);
+    HOLDS(memcmp(&token, &before, sizeof token) == 0);
+    IS(hs_slicelet_token(&place, 1, 9, HELLO, 94, &token), HS_DONE);
+    HOLDS(is_token(&token, 9, 3, 1));
+    IS(hear(&place, bridge, 6), HS_DONE);
+    IS(hs_slicelet_token(&place, 0, 8, HELLO, 94, &token), HS_DONE);
+    HOLDS(is_token(&token, 8, 4, 1));
+    IS(hs_slicelet_token_at(&place, 1, 9, hs_slice_key(ABC), 94, &token), HS_DONE);
+    HOLDS(is_token(&token, 9, 3, 1));
+    IS(hs_slicelet_token_at(&place, 1, 9, hs_slice_key(HELLO), 95, &token), HS_DONE);
+    HOLDS(is_token(&token, 9, 4, 1));
+    hs_place_free(&place);
+}
+
+/* Tokens are compared by epoch, generation and life, and a refused one changes nothing. */
+static void fences(void) {
+    static const uint8_t offered[][5] = {/* epoch, generation, life; whether it is accepted, and is the greatest */
+                                         {1, 2, 9, 1, 1}, {1, 2, 8, 0, 0}, {1, 1, 10, 0, 0}, {1, 3, 1, 1, 1},
+                                         {1, 3, 1, 1, 1}, {0, 9, 9, 0, 0}, {2, 1, 1, 1, 1},  {1, 200, 200, 0, 0}};
+    struct hs_token greatest = {{0}}, none = {{0}};
+    IS(hs_fence_accept(&greatest, &none), HS_DONE);
+    for (size_t at = 0; at < sizeof offered / sizeof *offered; at++) {
+        const uint8_t *it = offered[at];
+        const struct hs_token token = {{[3] = it[0], [11] = it[1], [15] = it[2]}}, before = greatest;
+        IS(hs_fence_accept(&greatest, &token), it[3] ? HS_DONE : HS_FENCED);
+        HOLDS(memcmp(&greatest, it[4] ? &token : &before, sizeof greatest) == 0);
+    }
+    const struct hs_token large = {{0, 0, 1, 0}}, above = {{0, 0, 1, 0, [5] = 1}};
+    IS(hs_fence_accept(&greatest, &large), HS_DONE);
+    IS(hs_fence_accept(&greatest, &above), HS_DONE);
+    IS(hs_fence_accept(&greatest, &large), HS_FENCED);
+}
+
 /* By slice key as by the key that has it. */
 static void by_slice_key(void) {
     struct hs_place task = serving_task();
@@ -492,6 +540,8 @@ static void goes_on(void) {
     IS(hear(&task, bridge, 6), HS_DONE);
     IS(hs_slicelet_next(&task, &bridging, 6, &action), HS_DONE);
     HOLDS(action == HS_GIVE_UP_GUARD);
+    IS(hs_slicelet_next(&task, &steady, 6, &action), HS_DONE);
+    HOLDS(action == HS_TASK_REST); /* a phase that the table has left; the bridge lease is kept */
     IS(hs_slicelet_resume(&task, JOB, 2, 1), HS_DONE);
     IS(hs_slicelet_next(&task, &steady, 6, &action), HS_DONE);
     HOLDS(action == HS_START);
@@ -606,6 +656,8 @@ void check_slicelets(void) {
     late_release();
     fills_up();
     two_leases();
+    tokens();
+    fences();
     by_slice_key();
     blocks();
     receives_grants();

@@ -1,4 +1,4 @@
-/* Tables. Deadlines and refusals follow docs/MODEL.md, with the numbers of the examples in docs/FORMATS.md. */
+/* Tables. Deadlines and refusals follow docs/verification/MODEL.md, with the numbers of the examples in docs/FORMATS.md. */
 #include "checks.h"
 
 #include <string.h>

@@ -16,7 +16,7 @@ void check_version(void) {
     HOLDS(strcmp(hs_code_name(HS_DONE), "HS_DONE") == 0);
     HOLDS(strcmp(hs_code_name(HS_NOT_OWNED), "HS_NOT_OWNED") == 0);
     HOLDS(strcmp(hs_code_name(HS_OTHER_PLACE), "HS_OTHER_PLACE") == 0);
-    HOLDS(strcmp(hs_code_name(HS_TOTAL_RANGE), "HS_TOTAL_RANGE") == 0);
-    HOLDS(strcmp(hs_code_name(HS_TOTAL_RANGE + 1), "unknown") == 0);
+    HOLDS(strcmp(hs_code_name(HS_FENCED), "HS_FENCED") == 0);
+    HOLDS(strcmp(hs_code_name(HS_FENCED + 1), "unknown") == 0);
     HOLDS(strcmp(hs_code_name(HS_OTHER_JOB - 1), "unknown") == 0);
 }

@@ -113,17 +113,11 @@ class Chaos:
             self.look(name)
 
     def look(self, name: str) -> None:
-        """Looks whether a process that was started listens: until then nothing happens to it. One that found its
-        store down has ended, and is started again, as by systemd."""
-        if not self.world.processes[name].is_alive() and self.is_store_down():
-            self.after(LOOKED, partial(self.again, name))
-        elif self.world.listens(name) or not self.world.processes[name].is_alive():
+        """Looks whether a process that was started listens: until then nothing happens to it."""
+        if self.world.listens(name) or not self.world.processes[name].is_alive():
             self.busy.discard(name)
         else:
             self.after(LOOKED, partial(self.look, name))
-
-    def is_store_down(self) -> bool:
-        return not {"engine", "store"}.isdisjoint(self.busy) or any(it.startswith("cut-store") for it in self.busy)
 
     def kill_task(self) -> None:
         self.kill("task-", 3.0)

@@ -98,8 +98,8 @@ class World:
         words += ["--control", self.urls(f"task-{task}"), "--folder", str(self.folder)]
         words += ["--secret-file", str(self.folder / "secret")]
         words += ["--policy", json.dumps(POLICY), "--drift", str(DRIFT), "--work", "4", "--fail", str(FAIL)]
-        if task % 2:  # the others stop by the age of their clocks before their leases end
-            words += ["--oldest", str(10 * GUARD)]
+        # Half of them stop by the age of their clocks, before their leases end.
+        words += ["--oldest", str(10 * GUARD if task % 2 else 9 * GUARD // 10)]
         return self.process("task", f"task-{task}", words)
 
     def load(self, load: int) -> Process:

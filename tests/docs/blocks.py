@@ -3,23 +3,26 @@
 A block fenced as ```sh is run. If a block fenced as ```text follows it, with nothing but blank lines between, that
 is exactly what it prints on standard output and standard error together. If none follows, it must end with status 0.
 A line `<!-- not run: REASON -->` directly above leaves a block out, with the text that follows it. A block fenced as
-```python is not run, but must be Python. An indented block that begins like a command fails.
+```python is not run, but must be Python. A block below a line `<!-- file: PATH -->` is that file, from the top of the
+repository. An indented block that begins like a command fails.
 
 The blocks of a page are run in order, in a copy of this checkout that is made for the page, as if they were typed
-into one bash at the top of the repository: variables and the current directory last from block to block. Each has
-120 seconds, and what it left running is ended with it. `/tmp/` in a block is a folder of this check, which is removed
-when the page is done.
+into one bash at the top of the repository: variables, the current directory and what runs in the background last from
+block to block, and end with the page. Each block has 300 seconds. `/tmp/` in a block is a folder of this check, which
+is removed when the page is done, and each `127.0.0.1:80NN` is an address with a port of its own.
 
 No block proves, and none compiles Rattle. `hourstable`, `slicer_run` and `slicer_live` are on the PATH as they were
 built (tools/built.py), and HOURSTABLE_BUILT names their folder. `rt` on that PATH is a stand-in, so that no kit is
 needed: `rt try` and `rt run` in the folder of a program run the built program at once, with the arguments after `--`;
 all else fails.
 """
+import ast
 import difflib
 import os
 import re
 import shutil
 import signal
+import socket
 import subprocess
 import tempfile
 import time
@@ -29,8 +32,10 @@ from pathlib import Path
 from built import PROGRAMS, Built
 from pages import TOP, Fault, Fence, Page, Result, all_pages, repository_files
 
-SECONDS = 120
+SECONDS = 300
 NOT_RUN = re.compile(r"^not run: \S")
+OF_FILE = re.compile(r"^file: (\S+)$")
+ADDRESS = re.compile(r"\b127\.0\.0\.1:80\d\d\b")
 OTHER_NAMES = {"bash", "shell", "console", "shell-session", "sh-session", "zsh"}
 COMMANDS = r"rt|hourstable|slicer_run|slicer_live|python3?|gcc|g\+\+|cargo|rustc|go|git|cd|cp|mkdir|pip|curl|export"
 LIKE_COMMAND = re.compile(
@@ -64,12 +69,16 @@ class Copy:
         self.room, self.top, self.temporary = room, room / "repository", room / "tmp"
         self.bin = room / "bin"
         self.folder = self.top
+        self.addresses: dict[str, str] = {}
+        self.left: list["subprocess.Popen[bytes]"] = []  # each leads a group, which may have processes that run
         for folder in (self.top, self.temporary, self.bin):
             folder.mkdir()
         for path in repository_files():
             target = self.top / path
             target.parent.mkdir(parents=True, exist_ok=True)
             shutil.copy2(TOP / path, target, follow_symlinks=False)
+            if path.startswith("examples/") and not target.is_symlink():
+                target.write_bytes(self.here(target.read_bytes().decode("latin-1")).encode("latin-1"))
         for name in PROGRAMS:
             for place in (self.top / f"crates/{name}/out/{name}", self.bin / name):
                 place.parent.mkdir(parents=True, exist_ok=True)
@@ -86,10 +95,24 @@ class Copy:
             "PYTHONDONTWRITEBYTECODE": "1",
         }
 
+    def here(self, text: str) -> str:
+        """A text with the addresses of this check in place of those of the page."""
+        return ADDRESS.sub(lambda it: self.addresses.setdefault(it[0], f"127.0.0.1:{free_port()}"), text)
+
+    def as_on_the_page(self, text: str) -> str:
+        for shown, own in self.addresses.items():
+            text = text.replace(own, shown)
+        return text.replace(f"{self.temporary}/", "/tmp/")
+
+    def end(self) -> None:
+        """Ends all that the blocks left running."""
+        while self.left:
+            end_group(self.left.pop())
+
     def run(self, text: str, strict: bool) -> tuple[int | None, str]:
         """Runs a block: its status, None if time ran out, and what it printed."""
         block, variables, folder, said = (self.room / it for it in ("block", "variables", "folder", "said"))
-        block.write_text(text.replace("/tmp/", f"{self.temporary}/"))
+        block.write_text(self.here(text).replace("/tmp/", f"{self.temporary}/"))
         words = ["bash", "--noprofile", "--norc", "-c", RUN_BLOCK, "bash"]
         words += [str(block), str(variables), str(folder), "yes" if strict else ""]
         with open(said, "wb") as output:
@@ -102,26 +125,36 @@ class Copy:
                 stderr=subprocess.STDOUT,
                 start_new_session=True,
             )
-            in_time = wait_for(ran, SECONDS)
+            self.left.append(ran)
+            status = wait_for(ran, SECONDS)
         if folder.exists():
             self.folder = Path(folder.read_text().rstrip("\n"))
             pairs = (it.partition("=") for it in variables.read_text().split("\0") if it)
             self.variables = {name: value for name, _, value in pairs}
-        printed = said.read_text(encoding="utf-8", errors="replace").replace(f"{self.temporary}/", "/tmp/")
-        return ran.returncode if in_time else None, printed
+        return status, self.as_on_the_page(said.read_text(encoding="utf-8", errors="replace"))
 
 
-def wait_for(ran: "subprocess.Popen[bytes]", seconds: float) -> bool:
-    """Waits for a process that leads a group, ends what is left of the group, and says whether it ended in time."""
+def free_port() -> int:
+    with socket.socket() as it:
+        it.bind(("127.0.0.1", 0))
+        return int(it.getsockname()[1])
+
+
+def wait_for(ran: "subprocess.Popen[bytes]", seconds: float) -> int | None:
+    """Waits for a process, and returns its status, or None if time ran out. The process stays a zombie, so that no
+    other group gets its number."""
     until = time.monotonic() + seconds
     options = os.WEXITED | os.WNOHANG | os.WNOWAIT
-    try:
-        while not (ended := os.waitid(os.P_PID, ran.pid, options)) and time.monotonic() < until:
-            time.sleep(0.02)
-    finally:
-        os.killpg(ran.pid, signal.SIGKILL)
-        ran.wait()
-    return ended is not None
+    while not (ended := os.waitid(os.P_PID, ran.pid, options)) and time.monotonic() < until:
+        time.sleep(0.02)
+    if ended is None:
+        return None
+    return ended.si_status if ended.si_code == os.CLD_EXITED else -ended.si_status
+
+
+def end_group(leader: "subprocess.Popen[bytes]") -> None:
+    os.killpg(leader.pid, signal.SIGKILL)
+    leader.wait()
 
 
 def is_run(fence: Fence) -> bool:
@@ -144,12 +177,15 @@ def misplaced(page: Page) -> Iterator[Fault]:
             yield Fault(page.path, fence.line, f"fence commands as ```sh, not as ```{fence.language}")
         if fence.language == "python":
             try:
-                compile(fence.text, page.path, "exec")
+                compile(fence.text, page.path, "exec", flags=ast.PyCF_ALLOW_TOP_LEVEL_AWAIT)
             except SyntaxError as fault:
                 yield Fault(page.path, fence.line + (fault.lineno or 0), fault.msg)
         if fence.language == "text" and fence.line not in after:
             why = "a ```text block stands directly after a ```sh block; fence other texts as ``` alone"
             yield Fault(page.path, fence.line, why)
+        shown = OF_FILE.match(fence.comment)
+        if shown and (not (TOP / shown[1]).is_file() or (TOP / shown[1]).read_text(encoding="utf-8") != fence.text):
+            yield Fault(page.path, fence.line, f"the block is not the file {shown[1]}")
     above = ""
     for number, line in enumerate(page.prose.split("\n"), 1):
         if LIKE_COMMAND.match(line) and not above.strip():
@@ -177,8 +213,11 @@ def outcome(copy: Copy, page: Page, fence: Fence, text: Fence | None) -> list[Fa
 def check_page(page: Page, built: Built) -> Iterator[Result]:
     with tempfile.TemporaryDirectory(prefix="docs.") as room:
         copy = Copy(Path(room).resolve(), built)
-        for fence in filter(is_run, page.fences):
-            yield Result(f"{page.path}:{fence.line}", outcome(copy, page, fence, text_after(page, fence)))
+        try:
+            for fence in filter(is_run, page.fences):
+                yield Result(f"{page.path}:{fence.line}", outcome(copy, page, fence, text_after(page, fence)))
+        finally:
+            copy.end()
 
 
 def check(built: Built) -> Iterator[Result]:

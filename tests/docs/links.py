@@ -54,12 +54,21 @@ def undefined(page: Page) -> Iterator[Fault]:
             yield Fault(page.path, line_of(text, match.start(1)), why)
 
 
+def check_page(page: Page) -> Iterator[Result]:
+    """A result for each link of a page."""
+    yield from of_page(page, {(TOP / it.path).resolve(): it for it in all_pages()})
+
+
+def of_page(page: Page, pages: dict[Path, Page]) -> Iterator[Result]:
+    for line, target in sorted(targets(page)):
+        why = fault_of(page, target, pages)
+        yield Result(target, [Fault(page.path, line, why)] if why else [])
+    for fault in undefined(page):
+        yield Result(fault.text, [fault])
+
+
 def check() -> Iterator[Result]:
     """A result for each link."""
     pages = {(TOP / it.path).resolve(): it for it in all_pages()}
     for page in pages.values():
-        for line, target in sorted(targets(page)):
-            why = fault_of(page, target, pages)
-            yield Result(target, [Fault(page.path, line, why)] if why else [])
-        for fault in undefined(page):
-            yield Result(fault.text, [fault])
+        yield from of_page(page, pages)

@@ -2,8 +2,9 @@
 
 usage: asking.py JOB LOGS TASKS GUARD URL..
 
-It prints a line in JSON each half second: the seconds of its clock, how often keys were asked for, and for each
-denial of this time its seconds, the key and the ground.
+It prints a line in JSON each half second: the seconds of its clock, how often keys were asked for, for each denial of
+this time its seconds, the key and the ground, and by how many seconds a thread that sleeps woke late at most: a
+machine that lets it wait so long lets tasks and planes wait as well.
 """
 
 import asyncio
@@ -12,6 +13,8 @@ import logging
 import signal
 import sys
 import time
+
+from late import Waking
 
 from hourstable.library import slice_key
 from hourstable.ranges import holds
@@ -30,6 +33,7 @@ class Asking:
         self.owners: dict[str, Task] = {}
         self.asked = 0
         self.denied: list[tuple[float, str, str]] = []
+        self.waking = Waking()
 
     async def run(self) -> None:
         while True:
@@ -57,7 +61,10 @@ class Asking:
     async def tell(self) -> None:
         while True:
             await asyncio.sleep(TOLD)
-            told = {"at": time.monotonic(), "asked": self.asked, "known": len(self.owners), "denied": self.denied}
+            told = {
+                "at": time.monotonic(), "asked": self.asked, "known": len(self.owners), "denied": self.denied,
+                "late": self.waking.latest(),
+            }
             self.asked, self.denied = 0, []
             print(json.dumps(told), flush=True)
 

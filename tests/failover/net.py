@@ -1,12 +1,15 @@
 """Hosts of a test, each a namespace of the network, and links between them that lose all packets while they are
 cut."""
 
+import os
+import re
 import subprocess
 from collections.abc import Iterator, Sequence
 from contextlib import contextmanager, suppress
 from itertools import combinations
 
-PREFIX = "hst"  # of the names of namespaces
+PREFIX = "hst"  # of the names of namespaces, before the process that made them
+NAME = re.compile(rf"{PREFIX}(\d+)-")
 
 
 class NoNamespaces(Exception):
@@ -24,13 +27,13 @@ class Net:
     is cut is untied at the bridge, so no host is told of it, and packets are lost both ways."""
 
     def __init__(self, number: int, hosts: Sequence[str]) -> None:
-        self.hosts, self._name = list(hosts), f"{PREFIX}{number}"
+        self.hosts, self.name = list(hosts), f"{PREFIX}{os.getpid()}-{number}"
         self.addresses = {host: f"10.{200 + number}.0.{at + 1}" for at, host in enumerate(hosts)}
-        self._hub = f"{self._name}-hub"
+        self._hub = f"{self.name}-hub"
 
     def space(self, host: str) -> str:
         """Returns the name of the namespace of a host."""
-        return f"{self._name}-{host}"
+        return f"{self.name}-{host}"
 
     def make(self) -> None:
         for space in (self._hub, *map(self.space, self.hosts)):
@@ -75,11 +78,20 @@ class Net:
                 ip("netns", "delete", space)
 
 
+def remove_left() -> None:
+    """Removes the namespaces of runs that were killed."""
+    listed = subprocess.run(["ip", "netns", "list"], check=False, capture_output=True, text=True).stdout
+    for space in (line.split()[0] for line in listed.splitlines() if line):
+        found = NAME.match(space)
+        if found is not None and not os.path.exists(f"/proc/{found[1]}"):
+            with suppress(subprocess.CalledProcessError):
+                ip("netns", "delete", space)
+
+
 @contextmanager
 def net_of(number: int, hosts: Sequence[str]) -> Iterator[Net]:
     """A net, which is removed at the end. Raises NoNamespaces."""
     made = Net(number, hosts)
-    made.remove()  # what a run that was killed has left
     try:
         made.make()
     except (OSError, subprocess.CalledProcessError) as why:

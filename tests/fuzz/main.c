@@ -8,7 +8,7 @@
 #include <string.h>
 
 #define LOWEST HS_TOO_MANY_SLICES
-#define HIGHEST HS_TOTAL_RANGE
+#define HIGHEST HS_FENCED
 /* A byte of JSON may be a value of its own, and a list grows by doubling. What a place holds is copied too. */
 #define TIMES_INPUT 128
 #define BESIDE_INPUT 65536

@@ -1,4 +1,6 @@
 """The tree that is installed under a prefix, and what is beside it in share/doc."""
+import subprocess
+import sys
 from pathlib import Path
 
 import library
@@ -7,7 +9,8 @@ from inputs import TOP, Inputs, filled, tracked, version
 from tree import Tree
 
 PAGES = ("README.md", "CHANGELOG.md", *(f"docs/{it}.md" for it in (
-    "AUDIT", "BINDINGS", "CONCEPTS", "COST", "FORMATS", "MODEL", "OPERATIONS", "PROMISES", "THREADS")))
+    "AUDIT", "BINDINGS", "COMPARISON", "CONCEPTS", "COST", "FENCING", "FORMATS", "HTTP", "INSTALL", "OPERATIONS", "SECURITY",
+    "THREADS", "TUTORIAL", "verification/MODEL", "verification/PROMISES")))
 LANGUAGES = ("go", "rust", "java")
 DOC = "share/doc/hourstable"
 
@@ -25,7 +28,8 @@ def installed(inputs: Inputs, built: Path, libdir: str, sources: str) -> Tree:
     put_configuration(tree, libdir)
     put_pages(tree, libdir, sources)
     for path in tracked(*LANGUAGES):
-        tree.put(f"{sources}/{path}", TOP / path, 0o755 if (TOP / path).stat().st_mode & 0o100 else 0o644)
+        if "/wrong-bodies/" not in path:
+            tree.put(f"{sources}/{path}", TOP / path, 0o755 if (TOP / path).stat().st_mode & 0o100 else 0o644)
     return tree
 
 
@@ -42,10 +46,16 @@ def put_configuration(tree: Tree, libdir: str) -> None:
 def put_pages(tree: Tree, libdir: str, sources: str) -> None:
     page = filled("packaging/INSTALLED.md", VERSION=version(), LIBDIR=libdir, SOURCES=sources)
     tree.put(f"{DOC}/INSTALLED.md", page)
-    for path in (*PAGES, *tracked("examples/c", "examples/python", "docs/pictures")):
+    for path in (*PAGES, *tracked("examples/c", "examples/counts", "examples/python", "docs/pictures")):
         tree.put(f"{DOC}/{path}", TOP / path)
+    tree.put(f"{DOC}/docs/API.md", api_page())
     tree.put(f"{DOC}/copyright", licences.copyright_page().encode())
     tree.put(f"{DOC}/LICENSE", TOP / "LICENSE")
     for crate in licences.crates():
         for file in crate.files:
             tree.put(f"{DOC}/licences/{crate.name}/{file.name}", file)
+
+
+def api_page() -> bytes:
+    """The page that lists the public calls of the crates. It is made of the sources, and not kept in the repository."""
+    return subprocess.run([sys.executable, TOP / "docs/api"], check=True, stdout=subprocess.PIPE).stdout
