@@ -4,6 +4,7 @@ import io
 import os
 import re
 import signal
+import socket
 import subprocess
 import sys
 import time
@@ -261,6 +262,18 @@ def test_a_task_that_ends_at_once(
         "hourstable-service: task-3 has ended with status 7. The last lines that it wrote:\n"
         "  what a pity\n"
     )
+
+
+def test_a_free_port_is_given_to_nobody_else() -> None:
+    """A task is started seconds after its port was chosen: no connection has it then."""
+    port = engines.free_port()
+    with socket.socket() as other, pytest.raises(OSError, match="in use"):
+        other.bind(("127.0.0.1", port))
+    for _ in range(2):  # the server of a task that is started again
+        with socket.create_server(("127.0.0.1", port)) as server, socket.create_connection(("127.0.0.1", port), 5):
+            server.accept()[0].close()
+    with pytest.raises(ConnectionRefusedError):
+        socket.create_connection(("127.0.0.1", port), 5)
 
 
 def test_a_process_that_does_not_answer(tmp_path: Path) -> None:

@@ -33,6 +33,7 @@ from built import PROGRAMS, Built
 from pages import TOP, Fault, Fence, Page, Result, all_pages, repository_files
 
 SECONDS = 300
+KEPT: list[socket.socket] = []
 NOT_RUN = re.compile(r"^not run: \S")
 OF_FILE = re.compile(r"^file: (\S+)$")
 ADDRESS = re.compile(r"\b127\.0\.0\.1:80\d\d\b")
@@ -135,9 +136,13 @@ class Copy:
 
 
 def free_port() -> int:
-    with socket.socket() as it:
-        it.bind(("127.0.0.1", 0))
-        return int(it.getsockname()[1])
+    """Returns a port of 127.0.0.1 that is kept until this process ends: the kernel gives it to no connection, and a
+    server that sets SO_REUSEADDR, as all of the pages do, listens at it."""
+    kept = socket.socket()
+    kept.setsockopt(socket.SOL_SOCKET, socket.SO_REUSEADDR, 1)
+    kept.bind(("127.0.0.1", 0))
+    KEPT.append(kept)
+    return int(kept.getsockname()[1])
 
 
 def wait_for(ran: "subprocess.Popen[bytes]", seconds: float) -> int | None:

@@ -20,6 +20,7 @@ from hourstable.demo.processes import die_with_parent
 
 POSTGRESQL = "/usr/lib/postgresql/*/bin/initdb"  # of each version that Debian installed
 PATIENCE = 120.0  # a server that was killed replays its log, perhaps beside much other work
+_KEPT: list[socket.socket] = []  # the sockets of free_port
 
 
 def missing(kind: str) -> str | None:
@@ -46,9 +47,15 @@ def _initdb() -> Path | None:
 
 
 def free_port() -> int:
-    with socket.create_server(("127.0.0.1", 0)) as server:
-        port: int = server.getsockname()[1]
-        return port
+    """Returns a port of 127.0.0.1 that is kept until this process ends. The kernel gives it to no
+    connection and to no other server that asks for any port. A server that is started for it listens
+    at it, since such servers set SO_REUSEADDR, as the socket does that keeps it."""
+    kept = socket.socket()
+    kept.setsockopt(socket.SOL_SOCKET, socket.SO_REUSEADDR, 1)
+    kept.bind(("127.0.0.1", 0))
+    _KEPT.append(kept)
+    port: int = kept.getsockname()[1]
+    return port
 
 
 def _other_user() -> pwd.struct_passwd | None:
