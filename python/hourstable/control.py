@@ -138,7 +138,7 @@ class Plane:
         )
         self.readiness = Readiness(store, settings.system)
         self.record = Record(None, settings.system)
-        self.waits = Waits(tickets, self._now)
+        self.waits = Waits(tickets, self._now, self.peers.is_cut_off)
         self.access = Access(callers or Callers(), hosts, self.metrics, self._now)
         self._runner: web.AppRunner | None = None
         self._server: asyncio.Server | None = None
@@ -825,7 +825,12 @@ class Plane:
             phase = "proposed" if proposed else "idle"
             return answer_of({"phase": phase, "committed": committed, "pending": proposed or None})
 
-        return await self.waits.get(request, job, lambda: not is_waiting or job.view[:2] != known, answer)
+        def is_due() -> bool:
+            told = job.view[:2]
+            is_news = told > known if self.peers.is_cut_off() else told != known
+            return is_news or not is_waiting
+
+        return await self.waits.get(request, job, is_due, answer)
 
     async def _get_loads(self, request: web.Request) -> web.Response:
         followed = await self.followed(job_in(request))

@@ -11,20 +11,23 @@ from hourstable.jobs import Job
 from hourstable.tickets import Tickets
 
 LONGEST_WAIT = 30.0  # seconds
+CUT_OFF = "the plane does not reach its store, and others may know more"
 
 
 class Waits:
-    """The calls of a plane that wait. A caller that left is noticed after a beat."""
+    """The calls of a plane that wait. A caller that left is noticed after a beat, and so is that the plane is cut off
+    from its store: others may do its jobs then, and their callers are to ask those."""
 
-    def __init__(self, tickets: Tickets, now: Callable[[], float]) -> None:
-        self._tickets, self._now = tickets, now
+    def __init__(self, tickets: Tickets, now: Callable[[], float], is_cut_off: Callable[[], bool]) -> None:
+        self._tickets, self._now, self._is_cut_off = tickets, now, is_cut_off
         self.is_closing = False  # whether nothing is waited for any more
         self.waiting = 0  # calls
 
     async def get(
         self, request: web.Request, job: Job, is_due: Callable[[], bool], answer: Callable[[], web.Response]
     ) -> web.StreamResponse:
-        """Waits until something is due of a job, for LONGEST_WAIT seconds at most, and answers."""
+        """Waits until something is due of a job, for LONGEST_WAIT seconds at most, and answers. Nobody waits at a
+        plane that is cut off."""
         assert job.policy is not None
         beat = job.policy.guard / 1000 / beats.PART
         takes_beats = request.headers.get(beats.HEADER) == beats.TAKES
@@ -32,7 +35,7 @@ class Waits:
         until = self._now() + LONGEST_WAIT
         self.waiting += 1
         try:
-            while not (is_due() or self.is_closing) and (left := until - self._now()) > 0:
+            while not (is_due() or self._is_to_end()) and (left := until - self._now()) > 0:
                 if request.transport is None:
                     return web.Response(status=204)  # nobody reads it
                 if stream is not None:
@@ -40,7 +43,7 @@ class Waits:
                 elif takes_beats:
                     stream = await _begun(request, beat)
                 await job.changed(min(left, beat))
-            made = answer()
+            made = answer() if is_due() or not self._is_cut_off() else failure(503, CUT_OFF, 1, refused="store")
             if stream is None:
                 made.headers[beats.HEADER] = _milliseconds(beat)
                 return made
@@ -50,6 +53,10 @@ class Waits:
         finally:
             self.waiting -= 1
         return stream
+
+    def _is_to_end(self) -> bool:
+        """Whether nothing is waited for any more."""
+        return self.is_closing or self._is_cut_off()
 
     def _later(self, made: web.Response) -> beats.Later:
         """Returns an answer with its ticket, which is drawn after what it tells."""

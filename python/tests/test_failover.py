@@ -170,6 +170,25 @@ async def test_a_plane_takes_the_jobs_of_one_whose_beat_stands_still(two: tuple[
     await until(lambda: not first.job.is_held)  # it looked
 
 
+async def test_nobody_waits_at_a_plane_that_is_cut_off_from_its_store(two: tuple[Side, Side]) -> None:
+    """Another plane has the job meanwhile, and tells what is proposed and committed. What the first one knew it tells
+    to those who knew less."""
+    first, second = two
+    await first.caller.grant(1)
+    newest = "/phase?committed=1&pending=0", "/assignment?after=1"
+    waiting = [asyncio.create_task(first.caller.get(it)) for it in newest]
+    await asyncio.sleep(0.1)
+    assert not any(it.done() for it in waiting)
+    first.store.is_cut = True
+    await until(lambda: second.job.is_held)
+    later = "/phase?committed=1&pending=2", "/assignment?after=2"  # what callers know by their leases
+    told = [*await asyncio.wait_for(asyncio.gather(*waiting), 10), *[await first.caller.get(it) for it in later]]
+    assert [(it.status, it.json["refused"]) for it in told] == [(503, "store")] * 4
+    assert (await first.caller.get("/phase?committed=0&pending=1")).json["committed"] == 1
+    assert (await first.caller.get("/phase")).json["committed"] == 1
+    assert (await first.caller.get("/assignment?after=0")).status == 200
+
+
 async def test_no_job_moves_while_the_store_stands_still_and_thaws(two: tuple[Side, Side]) -> None:
     first, second = two
     first.store.is_cut = second.store.is_cut = True
