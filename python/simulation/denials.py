@@ -13,7 +13,7 @@ from .world import SECOND
 EVERY = 0.25  # seconds between two looks
 RECENT = 2.0  # seconds for which a fault that struck counts
 LOOK = int(EVERY * SECOND)
-AROUND = 4 * SECOND  # the loss of a block, in which another task gains a key that moves
+AROUND = 4 * SECOND  # a loss, in which another task gains a key that moves
 
 
 class Denial(NamedTuple):
@@ -34,18 +34,29 @@ class Denial(NamedTuple):
         return f"{self.key} {how}, denied from {self.begun / SECOND:.2f} for {self.seconds:.2f} s"
 
 
-def lapses(cluster: Cluster) -> list[str]:
-    """Returns the blocks that tasks lost although their keys stayed, as no other task gained them at about that time:
-    they were denied, be it too shortly for a look."""
+def lapses(cluster: Cluster, end: int) -> list[str]:
+    """Returns the keys that tasks lost although they stayed, be it too shortly for a look: those that a task was told
+    to lose while no other one gained them at about that time, and those of blocks that a task lost untold. What tasks
+    were told so late that the gain may come after `end` is not judged."""
     made = []
-    for loss in cluster.losses:
-        place = slice_key(loss.key.encode())
-        moves = [
-            it for it in cluster.gains
-            if abs(it.at - loss.at) < AROUND and it.task != loss.task and holds(it.ranges, place)
-        ]
-        if not moves:
-            made.append(f"{loss.key} lapsed, {loss.task} lost a block on it at {loss.at / SECOND:.2f}")
+    for job in cluster.scene.jobs:
+        tasks = {it.name for it in cluster.tasks_of(job)}
+        losses = [it for it in cluster.losses if it.task in tasks]
+        gains = [it for it in cluster.gains if it.task in tasks]
+        for key in job.keys:
+            place = slice_key(key.encode())
+            told = [it for it in losses if holds(it.ranges, place)]
+            gained = [it for it in gains if holds(it.ranges, place)]
+            made += [
+                f"{key} lapsed, {loss.task} was told to lose it at {loss.at / SECOND:.2f}" for loss in told
+                if loss.at + AROUND < end
+                and not any(abs(it.at - loss.at) < AROUND and it.task != loss.task for it in gained)
+            ]
+            made += [
+                f"{key} lapsed, {block.task} lost a block on it untold at {block.at / SECOND:.2f}"
+                for block in cluster.broken if block.key == key
+                and not any(it.task == block.task and block.since <= it.at <= block.at for it in told)
+            ]
     return made
 
 
@@ -85,11 +96,16 @@ class Watch:
             self.denials.append(Denial(key, begun, now, moved, kinds))
         self._owners[key] = owner
 
-    def end(self) -> None:
-        """Ends the denials that last."""
-        now = self._cluster.world.now
+    def end(self, seconds: float) -> None:
+        """Ends the denials that last. Those that began before are followed first, for so many seconds at most:
+        whether a key moves is seen once it is served again."""
+        world = self._cluster.world
+        before, until = world.now, world.now + int(seconds * SECOND)
+        while world.now < until and any(begun <= before for begun, _ in self._missing.values()):
+            world.run_until(min(world.now + LOOK, until))
         for key, (begun, kinds) in self._missing.items():
-            self.denials.append(Denial(key, begun, now, False, kinds))
+            if begun <= before:
+                self.denials.append(Denial(key, begun, world.now, False, kinds))
         self._missing.clear()
 
     def worst(self) -> dict[str, list[float]]:

@@ -2,15 +2,18 @@
 that all tasks share. What clients were told of each key is kept as a history."""
 
 import asyncio
+from collections.abc import Callable
+from contextlib import AbstractAsyncContextManager
 from dataclasses import dataclass, field
 from typing import NamedTuple
 
 from hourstable.demo.shelf import NOTHING, Late, Session
 from hourstable.library import Fence
-from hourstable.task import Hold, Task
+from hourstable.task import Hold, Lease, Task
 
 from .world import Process
 
+Serving = Callable[[str], AbstractAsyncContextManager[Lease]]
 FOR_EVER = 1 << 62  # when an operation ended whose caller was told nothing
 STOPS, LONGEST = 0.03, 25.0  # the part of writes that are stopped after their check, and for how many seconds at most
 
@@ -66,10 +69,11 @@ class Shelf:
 
 
 class Sessions:
-    """The sessions of a task. One in memory counts as long as its handle is continuous."""
+    """The sessions of a task, whose blocks `serving` makes. One in memory counts as long as its handle is
+    continuous."""
 
-    def __init__(self, process: Process, task: Task, shelf: Shelf) -> None:
-        self._process, self._task, self._shelf = process, task, shelf
+    def __init__(self, process: Process, task: Task, shelf: Shelf, serving: Serving) -> None:
+        self._process, self._task, self._shelf, self._serving = process, task, shelf, serving
         self._memory: dict[str, tuple[Hold, Session]] = {}
         self._turns: dict[str, asyncio.Lock] = {}
 
@@ -87,7 +91,7 @@ class Sessions:
         last check, for longer than two leases."""
         rng = self._process.rng
         async with self._turns.setdefault(key, asyncio.Lock()):
-            async with self._task.serving(key) as lease:
+            async with self._serving(key) as lease:
                 hold, session = self._session(key)
                 await asyncio.sleep(length)
                 if write not in session.ids:
@@ -104,7 +108,7 @@ class Sessions:
 
     async def read(self, key: str, length: float) -> Session:
         """Reads, from memory if that counts. Raises Denied and LeaseLost."""
-        async with self._task.serving(key):
+        async with self._serving(key):
             _, session = self._session(key)
             await asyncio.sleep(length)
         return session

@@ -2,6 +2,8 @@
 in a simulated process."""
 
 import asyncio
+from collections.abc import AsyncIterator
+from contextlib import asynccontextmanager
 from functools import partial
 from typing import Any
 
@@ -16,7 +18,7 @@ from hourstable.ranges import Ranges
 from hourstable.service import ControlPlane, Options
 from hourstable.store import Store, store_of
 from hourstable.system import System
-from hourstable.task import Denied, LeaseLost, Task
+from hourstable.task import Denied, Lease, LeaseLost, Task
 from hourstable.tickets import Tickets
 from hourstable.transport import Transport
 
@@ -27,7 +29,7 @@ from .machine import Machine
 from .scene import JobScene
 from .roles import WORLD as ROLES
 from .roles import callers_of, run_operator, secret_of
-from .services import OTHER_SECRET, SECRET, SERVICE, Cluster, Gain, Loss, Service
+from .services import OTHER_SECRET, SECRET, SERVICE, Broken, Cluster, Gain, Loss, Service
 from .stores import SharedStore
 from .strangers import listen
 from .world import Process
@@ -153,6 +155,7 @@ class Served:
 
     async def on_lose(self, ranges: Ranges, deadline: int) -> None:
         cluster, rng = self.cluster, self.process.rng
+        cluster.losses.append(Loss(cluster.world.now, self.process.name, ranges))
         if rng.random() < cluster.callbacks:
             if rng.random() < 0.5:
                 raise RuntimeError("on_lose fails")
@@ -178,15 +181,26 @@ class Served:
         except Denied as why:
             return f"denied {why.ground}"
         except LeaseLost:
-            self.cluster.losses.append(Loss(self.cluster.world.now, self.process.name, key))
             return "lost"
         except Late:
             return "late"
 
+    @asynccontextmanager
+    async def serving(self, key: str) -> AsyncIterator[Lease]:
+        """A block of `Task.serving`, which is noted if the task loses it."""
+        since, world = -1, self.cluster.world
+        try:
+            async with self.task.serving(key) as lease:
+                since = world.now
+                yield lease
+        except LeaseLost:
+            self.cluster.broken.append(Broken(since, world.now, self.process.name, key))
+            raise
+
     async def work(self, key: str, length: float) -> None:
         """Works for a key, and checks twice that it still has it."""
         oracle, world = self.cluster.oracle, self.cluster.world
-        async with self.task.serving(key) as lease:
+        async with self.serving(key) as lease:
             block = oracle.enter(key, self.process, lease)
             try:
                 for _ in range(2):
@@ -211,7 +225,7 @@ async def run_task(job: JobScene, number: int, service: Service) -> None:
         transport=transport_of(service), system=Machine(process),
     )
     service.object = served.task = task
-    served.sessions = Sessions(process, task, cluster.shelf)
+    served.sessions = Sessions(process, task, cluster.shelf, served.serving)
     stopped = asyncio.Event()
     process.on_signal = stopped.set
     async with task:

@@ -105,7 +105,7 @@ class Run:
         world.tell("faults end")
         self.faults.end()
         well = health(self.cluster)
-        self.watch.end()
+        self.watch.end(max(self._bounds() or (0.0, 0.0)))
         for service in self.cluster.services.values():
             if service.process is not None:
                 service.process.loop.note_dead_tasks()
@@ -145,7 +145,7 @@ class Run:
         scene, cluster = self.scene, self.cluster
         denied = self._denied()
         if scene.world == "quiet":
-            denied += lapses(cluster)
+            denied += lapses(cluster, self.world.now)
         wild = scene.world == "wild"  # beyond the drift nothing is promised
         overtakes = scene.seconds or scene.recovering
         back = any(it.kind in RECOVERED for it in self.faults.struck)
@@ -175,15 +175,20 @@ class Run:
         made.wrong = {name: all_of for name, all_of in found.items() if all_of}
         made.digest = f"{self.world.digest & (1 << 64) - 1:016x}"
 
-    def _denied(self) -> list[str]:
-        """Returns the denials that last longer than the world allows: of a key that stays, and of one that moves."""
+    def _bounds(self) -> tuple[float, float] | None:
+        """Returns for how many seconds the world allows a denial of a key that stays, and of one that moves; None if
+        that is not judged."""
         scene = self.scene
         moves = max(scene.term + GRACE_BOUND, JOB_TERMS * scene.term + TAKE_BOUND)
         quiet, lost = (0.0, QUIET_BOUND), (FAILOVER_BOUND, moves)
         upgraded = quiet if scene.kinds == ("turn",) else lost
-        bounds = {
+        return {
             "quiet": quiet, "handovers": quiet, "failover": lost, "pairs": lost, "upgrades": upgraded,
         }.get(scene.world)
+
+    def _denied(self) -> list[str]:
+        """Returns the denials that last longer than the world allows."""
+        scene, bounds = self.scene, self._bounds()
         if bounds is None:
             return []
         return [

@@ -48,8 +48,17 @@ class Gain(NamedTuple):
 
 
 class Loss(NamedTuple):
-    """A block of `serving` that a task lost."""
+    """Slice keys that a task was told to give up, or to have lost."""
 
+    at: int
+    task: str
+    ranges: Ranges
+
+
+class Broken(NamedTuple):
+    """A block of `serving` that a task lost, from its entry to its end: that may be long after the loss."""
+
+    since: int
     at: int
     task: str
     key: str
@@ -136,6 +145,7 @@ class Cluster:
         self.exits: list[Exit] = []
         self.gains: list[Gain] = []
         self.losses: list[Loss] = []
+        self.broken: list[Broken] = []
         self.failed: list[str] = []  # requests that a plane answered by 500
         self.trespassed: list[str] = []  # calls that a plane did although the role of the caller does not allow them
         self.turned_away = 0  # and those that it did not
