@@ -80,7 +80,7 @@ class Leases:
         log: KeptLog | NoLog,
         epoch: int = 0,
     ) -> None:
-        self.job, self.task, self.life, self.epoch = job, task, life, epoch
+        self.job, self.task, self.life, self.last, self.epoch = job, task, life, last, epoch
         self.clock, self.local_clock = clock, local_clock
         self.started = False
         self.held: dict[str, Held] = {}

@@ -592,7 +592,7 @@ class Task:
             return 0.0  # it was stopped, and another life may be let in since
         leases = self._leases = self._begin(life, told.epoch)
         self._lives.heard(life.life)
-        self._free_dropped()
+        self._free_dropped(leases)
         return self._hear(leases, told)
 
     async def _let_in(self, life: int) -> replies.Granted:
@@ -715,9 +715,10 @@ class Task:
         leases.close()
         return leases.life
 
-    def _free_dropped(self) -> None:
-        """Frees what lives may have that were dropped, once a later one is let in."""
-        dropped, self._dropped = self._dropped, []
+    def _free_dropped(self, leases: Leases) -> None:
+        """Frees what a life may have that was dropped, once the next one is let in. That has the notes of the life
+        alone that was given out before it: after an earlier one another process may have begun."""
+        dropped, self._dropped = [it for it in self._dropped if it[0] == leases.last], []
         notes = [(ended_note(self.job, self.task, life, kind), key) for life, key in dropped for kind in KINDS]
         self._freeing = [self._supervisor.spawn("free", self._free(*note)) for note in notes]
 
@@ -814,7 +815,7 @@ class Task:
         self._phases.learn(kind, leases.held[kind].generation)
         if self._dropped:
             self._lives.heard(leases.life)
-            self._free_dropped()
+            self._free_dropped(leases)
         self.metrics.heard(kind)
         self.renewed = Renewed(self.renewed.times + 1, self._system.monotonic())
         self.metrics.left.set(leases.calls_left())

@@ -3,6 +3,7 @@ wait for the leases of the one before."""
 
 import asyncio
 import os
+import shutil
 import signal
 import subprocess
 import sys
@@ -23,6 +24,7 @@ from hourstable.control import Plane  # noqa: E402
 from hourstable.store import Store  # noqa: E402
 from hourstable.task import Denied, Lease, LeaseLost, Overtaken, Task  # noqa: E402
 from serving import POLICY, Caller, running  # noqa: E402
+from test_handed import audited  # noqa: E402
 from waits import until  # noqa: E402
 
 LONG: dict[str, Any] = {**POLICY, "guard": 3000, "bridge": 3000}
@@ -257,6 +259,27 @@ async def test_a_life_that_is_dropped_is_followed_at_once(file: Store, tmp_path:
             await until(lambda: bool(task.served()))
             await until(lambda: {row.life for row in plane.jobs["shop"].job.rows()} == {2})
             assert (await caller.get()).json["admitted"] == {"1": 2}
+
+
+async def test_no_note_is_sent_of_a_life_after_which_another_one_may_have_begun(
+    file: Store, tmp_path: Path
+) -> None:
+    """A process begins after the life that was given out before its own, and the notes that it sends are of that one.
+    Its leases of an earlier life end by themselves."""
+    async with owned(file, tmp_path, {**LONG, "guard": 20_000, "bridge": 20_000}) as (plane, caller):
+        async with task_of(caller.url, tmp_path) as task:
+            for drawn, left in ((1, {1, 3}), (0, {1, 4})):
+                await until(lambda: bool(task.served()))
+                for _ in range(drawn):
+                    await caller.post("tasks/1/life")  # by another process, or the answer was lost
+                task._drop_life()
+                task._phases.changed.set()
+                await until(lambda: bool(task.served()))
+                await until(lambda: {row.life for row in plane.jobs["shop"].job.rows()} == left)
+                await asyncio.sleep(0.3)
+                assert {row.life for row in plane.jobs["shop"].job.rows()} == left
+    shutil.copytree(tmp_path / "plane/shop", tmp_path / "logs/shop", dirs_exist_ok=True)
+    assert audited(tmp_path / "logs/shop").startswith("audit one\n")
 
 
 async def test_a_task_with_no_folder_waits_for_the_one_before(file: Store, tmp_path: Path) -> None:
