@@ -7,6 +7,7 @@ from collections.abc import Awaitable, Callable
 from typing import Any
 
 LATE = 0.5  # seconds after which a late store writes
+LET_IN_EARLY = "let-in-early"  # the bug of which only second processes of tasks tell
 
 
 def answer_before_the_store() -> None:
@@ -67,6 +68,18 @@ def use_a_life_twice() -> None:
 
     for kind in _with(store, "raise_life"):
         setattr(kind, "raise_life", same_life(getattr(kind, "raise_life")))
+
+
+def let_in_while_a_row_is_open() -> None:
+    """The control plane lets a higher life of a task in while another one may have leases."""
+    from hourstable.rights import Asked, Rights
+
+    real = Rights.judge
+
+    def judge(self: Rights, asked: Asked, at: int, ends: int) -> None:
+        real(self, asked, at, 0)
+
+    setattr(Rights, "judge", judge)
 
 
 ENDED, BROKEN = 3, 14  # codes of the header
@@ -144,6 +157,7 @@ def _with(module: Any, name: str) -> list[type]:
 BUGS: dict[str, tuple[str, Callable[[], None]]] = {
     "answer-before-store": ("control", answer_before_the_store),
     "life-twice": ("control", use_a_life_twice),
+    LET_IN_EARLY: ("control", let_in_while_a_row_is_open),
     "bridge-not-waited-for": ("control", commit_over_bridges),
     "past-end": ("task", use_a_lease_past_its_end),
 }

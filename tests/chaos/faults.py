@@ -8,6 +8,9 @@ from collections.abc import Callable
 from functools import partial
 from random import Random
 
+from bugs import LET_IN_EARLY
+from second import HERE as SECOND
+from second import Seconds
 from world import GUARD, LOADS, TASKS, World
 
 from hourstable.demo import engines
@@ -27,7 +30,10 @@ class Chaos:
         self.later: list[tuple[float, int, Callable[[], None]]] = []
         self.busy: set[str] = set()
         self.pushed = 0
-        self.kinds = [kind for weight, kind in (*self.usual(), *self.others()) for _ in range(weight)]
+        self.seconds = Seconds(self)
+        seconds = self.second_processes()
+        self.first = [kind for _, kind in seconds]  # what happens in each run
+        self.kinds = [kind for weight, kind in (*self.usual(), *self.others(), *seconds) for _ in range(weight)]
 
     def usual(self) -> list[Kind]:
         """What happens in each run, with how often beside the others."""
@@ -53,13 +59,21 @@ class Chaos:
         full = (None, "task-", "plane-")[words.seed % 3 - 1]
         return made if full is None else [*made, (3, partial(self.fill_disk, full))]
 
+    def second_processes(self) -> list[Kind]:
+        """What happens in runs without a bug, or with one of which only second processes of tasks tell."""
+        words = self.world.words
+        if words.bug not in (None, LET_IN_EARLY) or words.drift_beyond:
+            return []
+        return [(20 if words.bug else 5, self.seconds.begin_elsewhere), (1, self.seconds.begin_beside)]
+
     def run(self, seconds: float) -> None:
         """Lets things happen for a while, and then mends all."""
         end = time.monotonic() + seconds
         following = time.monotonic() + 3.0
         while time.monotonic() < end:
             if time.monotonic() >= following:
-                self.random.choice(self.kinds)()
+                happens = self.first.pop() if self.first else self.random.choice(self.kinds)
+                happens()
                 following = time.monotonic() + self.random.uniform(0.2, 1.4)
             self.do_later(time.monotonic())
             time.sleep(0.02)
@@ -69,8 +83,12 @@ class Chaos:
         self.world.weather.change(self.world.weather.links, lose=0, repeat=0, delay=0)
 
     def do_later(self, now: float) -> None:
+        due = []
         while self.later and self.later[0][0] <= now:
-            heapq.heappop(self.later)[2]()
+            due.append(heapq.heappop(self.later)[2])
+        for do in due:
+            do()
+        self.world.start_overtaken()
 
     def after(self, seconds: float, do: Callable[[], None]) -> None:
         self.pushed += 1
@@ -195,6 +213,8 @@ class Chaos:
 
     def fill_disk(self, kind: str) -> None:
         """Fills the disk with the logs of a kind of processes, for up to two leases."""
+        if kind == "task-" and SECOND in self.busy:
+            return
         if self.is_free(f"disk-{kind}"):
             self.world.disks[kind].fill()
             self.happened[f"full disks of {kind.rstrip('-')}s"] += 1

@@ -8,7 +8,7 @@ import signal
 import time
 import urllib.error
 import urllib.request
-from collections.abc import Iterable, Mapping
+from collections.abc import Callable, Iterable, Mapping
 from concurrent.futures import ThreadPoolExecutor
 from pathlib import Path
 from typing import NamedTuple
@@ -24,10 +24,11 @@ LATE = 5.0  # seconds in which a process tells its loops
 
 
 class Healing:
-    """Looks from the end of the last fault on. `tasks` are where the tasks are, `keys` what they are asked for."""
+    """Looks from the end of the last fault on. `tasks` are where the tasks are, `keys` what they are asked for, and
+    `meanwhile` is called again and again."""
 
-    def __init__(self, tasks: Mapping[int, str], keys: Iterable[str]) -> None:
-        self.tasks = dict(tasks)
+    def __init__(self, tasks: Mapping[int, str], keys: Iterable[str], meanwhile: Callable[[], None]) -> None:
+        self.tasks, self.meanwhile = dict(tasks), meanwhile
         self.begun = time.monotonic()
         self.heard: dict[int, float] = {}  # tasks, and how many leases they had heard when they answered first
         self.unserved = list(keys)
@@ -40,6 +41,7 @@ class Healing:
         with ThreadPoolExecutor(AT_ONCE) as pool:
             while time.monotonic() < end and not self.is_well():
                 time.sleep(0.05)
+                self.meanwhile()
                 self.unrenewed = self.late()
                 answers = zip(self.unserved, pool.map(self._is_served, self.unserved))
                 self.unserved = [key for key, is_served in answers if not is_served]
@@ -51,7 +53,9 @@ class Healing:
 
     def rest(self, seconds: float) -> None:
         """Waits until so many seconds have passed since the last fault."""
-        time.sleep(max(0.0, self.begun + seconds - time.monotonic()))
+        while time.monotonic() < self.begun + seconds:
+            self.meanwhile()
+            time.sleep(0.05)
 
     def is_well(self) -> bool:
         return not self.unserved and not self.unrenewed
@@ -61,15 +65,21 @@ class Healing:
         return [task for task in self.tasks if not self._has_renewed(task)]
 
     def _has_renewed(self, task: int) -> bool:
-        status, text = _get(f"{self.tasks[task]}/metrics")
-        if status != 200:
+        heard = heard_by(self.tasks[task])
+        if heard is None:
             return False
-        heard = sum(map(float, HEARD.findall(text)))
-        return heard >= self.heard.setdefault(task, heard) + RENEWED
+        self.heard[task] = min(heard, self.heard.get(task, heard))  # it may be started again
+        return heard >= self.heard[task] + RENEWED
 
     def _is_served(self, key: str) -> bool:
         """Whether one task answers for a key: that it is there, or that it is not."""
         return any(_get(f"{url}/sessions/{key}")[0] in (200, 404) for url in self.tasks.values())
+
+
+def heard_by(task: str) -> float | None:
+    """Returns how many leases the process of a task at an address has heard, None if it does not answer."""
+    status, text = _get(f"{task}/metrics")
+    return sum(map(float, HEARD.findall(text))) if status == 200 else None
 
 
 def _get(url: str) -> tuple[int, str]:

@@ -1,8 +1,9 @@
 """A proxy of HTTP that delays messages, loses them, repeats them and so reorders them.
 
 It listens on a port for each link, and passes requests on. POST /settings at its own port changes
-how a link behaves: {"PORT": {"lose": P, "repeat": P, "delay": SECONDS, "cut": true}, ..}. An answer
-always belongs to its own request, as a transport gives it.
+how a link behaves: {"PORT": {"lose": P, "repeat": P, "delay": SECONDS, "cut": true, "also": [URL]}, ..}.
+An answer always belongs to its own request, as a transport gives it. With `also` each request goes to the
+link's target or to one of these, by chance.
 
 A stream is a link of bytes, to a server of another protocol. While it is cut, what is sent on it is on its way.
 """
@@ -16,8 +17,8 @@ from typing import Any
 import aiohttp
 from aiohttp import web
 
-PASSED = ("Authorization", "Content-Type", "Hourstable-Ticket")
-BACK = ("Content-Type", "Hourstable-Ticket", "Hourstable-Reading", "Retry-After")
+PASSED = ("Authorization", "Content-Type", "Hourstable-Key", "Hourstable-Ticket", "Hourstable-Version")
+BACK = ("Content-Type", "Hourstable-Ticket", "Hourstable-Reading", "Hourstable-Version", "Retry-After")
 
 
 class Link:
@@ -54,8 +55,9 @@ class Link:
 
     async def forward(self, request: web.Request, body: bytes) -> web.Response:
         headers = {name: request.headers[name] for name in PASSED if name in request.headers}
+        target = self.random.choice([self.target, *self.settings.get("also", [])])
         async with self.session.request(
-            request.method, self.target + request.path_qs, data=body, headers=headers
+            request.method, target + request.path_qs, data=body, headers=headers
         ) as answer:
             found = await answer.read()
             kept = {name: answer.headers[name] for name in BACK if name in answer.headers}

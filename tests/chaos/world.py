@@ -2,14 +2,16 @@
 
 import argparse
 import json
+import re
 import shutil
 import socket
+from collections import Counter
 from pathlib import Path
 from random import Random
 from typing import NamedTuple
 from urllib.parse import urlsplit
 
-from bugs import BUGS
+from bugs import BUGS, LET_IN_EARLY
 from disks import Disk
 from weather import Weather
 
@@ -29,6 +31,8 @@ FAIL = 0.3  # the part of the tasks' callbacks that raise
 RATE = 45_000  # most by which a clock is fast or slow: 1.045 / 0.955 is below 1.1
 BEYOND = -300_000  # of the tasks' clocks beyond the drift
 MEGABYTES = 64  # of a disk of logs
+ELSEWHERE = "elsewhere"  # the folder of second processes
+OVERTAKEN = re.compile(r"^task \d+: life \d+ of another process is let in, after \d+; this one ends$", re.MULTILINE)
 SECRETS = {"secret": "the one of all callers", "wrong-secret": "that of another service"}
 
 
@@ -49,6 +53,7 @@ class World:
         self.variables = {"HOURSTABLE_LIBRARY": str(used.library)}
         self.planes = {n: engines.free_port() for n in range(self.words.planes)}
         self.ports = {task: engines.free_port() for task in TASKS}
+        self.second_ports = {f"task-{task}": engines.free_port() for task in TASKS}
         self.disks = {  # of the logs, by the kind of processes
             "task-": Disk(self.folder / "logs", MEGABYTES), "plane-": Disk(self.folder / "plane-logs", MEGABYTES),
         }
@@ -62,9 +67,14 @@ class World:
             self.processes[f"task-{task}"] = self.task(task, port)
         for load in LOADS:
             self.processes[f"load-{load}"] = self.load(load)
+        self.seconds = {f"task-{task}": self.second(task) for task in TASKS}
+        self.beside = {f"task-{task}": self.one_beside(task) for task in TASKS}
+        self.begins: dict[str, int] = {}  # where in the output of a process its last start is
+        self.overtaken: Counter[str] = Counter()  # how often processes ended, as another one of their task was let in
 
     def callers(self) -> list[str]:
-        return [*(f"task-{task}" for task in TASKS), *(f"load-{load}" for load in LOADS)]
+        names = [f"{kind}-{task}" for kind in ("task", "second") for task in TASKS]
+        return [*names, *(f"load-{load}" for load in LOADS)]
 
     def links(self) -> dict[str, str]:
         """The links of the proxy: from each task and each load to each plane, and to each task."""
@@ -94,19 +104,34 @@ class World:
         return self.process("control", f"plane-{plane}", words)
 
     def task(self, task: int, port: int) -> Process:
-        words = ["hourstable.demo.cache_task", "--task", str(task), "--port", str(port), "--tickets", "time"]
-        words += ["--control", self.urls(f"task-{task}"), "--folder", str(self.folder)]
+        return self.process("task", f"task-{task}", self.words_of(f"task-{task}", task, port, "time"))
+
+    def second(self, task: int) -> Process:
+        """A second process of a task, as on another host."""
+        name = f"second-{task}"
+        words = self.words_of(name, task, self.second_ports[f"task-{task}"], "time")
+        return self.process("task", name, [*words, "--place", ELSEWHERE])
+
+    def one_beside(self, task: int) -> Process:
+        """A second process of a task with the folders of the first one."""
+        words = self.words_of(f"second-{task}", task, engines.free_port(), "follow")
+        return self.process("task", f"beside-{task}", words)
+
+    def words_of(self, name: str, task: int, port: int, tickets: str) -> list[str]:
+        """Returns what runs a process of a task, with links of a name to the planes."""
+        words = ["hourstable.demo.cache_task", "--task", str(task), "--port", str(port), "--tickets", tickets]
+        words += ["--control", self.urls(name), "--folder", str(self.folder)]
         words += ["--secret-file", str(self.folder / "secret")]
         words += ["--policy", json.dumps(POLICY), "--drift", str(DRIFT), "--work", "4", "--fail", str(FAIL)]
         # Half of them stop by the age of their clocks, before their leases end.
-        words += ["--oldest", str(10 * GUARD if task % 2 else 9 * GUARD // 10)]
-        return self.process("task", f"task-{task}", words)
+        return [*words, "--oldest", str(10 * GUARD if task % 2 else 9 * GUARD // 10)]
 
     def load(self, load: int) -> Process:
         addresses = ",".join(f"{task}={self.weather.url(f'to-task-{task}')}" for task in TASKS)
         words = ["hourstable.demo.clients", "--number", str(load), "--tasks", addresses, "--logs"]
         words += ["--control", self.urls(f"load-{load}"), "--folder", str(self.folder)]
-        words += ["--secret-file", str(self.folder / "secret"), "--clients", "4", "--pause", "40"]
+        clients = 16 if self.words.bug == LET_IN_EARLY else 4  # it shows for about a second alone
+        words += ["--secret-file", str(self.folder / "secret"), "--clients", str(clients), "--pause", "40"]
         return self.process("load", f"load-{load}", words)
 
     def process(self, kind: str, name: str, words: list[str]) -> Process:
@@ -126,14 +151,57 @@ class World:
     def start(self, name: str, secret: str = "secret") -> None:
         """Starts a process, on a host with another clock; a plane with one of the secrets."""
         process = self.processes[name]
-        rate = self.random.randint(-RATE, RATE)
-        if self.words.drift_beyond:
-            rate = BEYOND if name.startswith("task-") else RATE
-        epoch = self.random.randint(0, 1 << 40)
-        process.variables["HOURSTABLE_CLOCK"] = f"epoch={epoch},ppm={rate:+d}"
         if name.startswith("plane-"):
             process.words[process.words.index("--secret-file") + 1] = str(self.folder / secret)
+        self.start_process(process)
+
+    def start_process(self, process: Process) -> None:
+        rate = self.random.randint(-RATE, RATE)
+        if self.words.drift_beyond:
+            rate = BEYOND if process.name.startswith("task-") else RATE
+        epoch = self.random.randint(0, 1 << 40)
+        process.variables["HOURSTABLE_CLOCK"] = f"epoch={epoch},ppm={rate:+d}"
+        if not process.is_alive():
+            self.begins[process.name] = process.out.stat().st_size if process.out.exists() else 0
         process.start()
+
+    def start_second(self, name: str) -> None:
+        """Starts a second process of a task elsewhere, which gets half of its requests."""
+        self.seconds[name].kill()
+        self.start_process(self.seconds[name])
+        self.weather.change([f"to-{name}"], also=[self.second_address(name)])
+
+    def send_to_first(self, name: str) -> None:
+        """Lets the first process of a task have all of its requests."""
+        self.weather.change([f"to-{name}"], also=[])
+
+    def start_beside(self, name: str) -> None:
+        """Starts a second process of a task with the folders of the first one."""
+        self.start_process(self.beside[name])
+
+    def second_address(self, name: str) -> str:
+        return local(self.second_ports[name])
+
+    def said(self, process: Process) -> str:
+        """Returns what a process wrote since its last start."""
+        with open(process.out, "rb") as out:
+            out.seek(self.begins[process.name])
+            return out.read().decode(errors="replace")
+
+    def was_overtaken(self, process: Process) -> bool:
+        """Whether a process has ended as another one of its task was let in."""
+        return process.has_ended() and bool(OVERTAKEN.search(self.said(process)))
+
+    def waits(self, name: str) -> bool:
+        """Whether a process has said that it waits for another one of its task."""
+        return " waits: life " in self.said(self.processes[name])
+
+    def start_overtaken(self) -> None:
+        """Starts the processes of tasks again that were overtaken, as their supervisors do."""
+        for name in self.second_ports:
+            if self.was_overtaken(self.processes[name]):
+                self.overtaken[name] += 1
+                self.start(name)
 
     def start_all(self) -> None:
         self.weather.start()
@@ -161,6 +229,8 @@ class World:
 
     def end(self) -> None:
         """Ends all processes, and lays the logs of all of them into one folder."""
+        for process in (*self.seconds.values(), *self.beside.values()):
+            process.end()
         for kind in ("load-", "task-", "plane-"):
             for name, process in self.processes.items():
                 if name.startswith(kind):
@@ -169,6 +239,9 @@ class World:
         kept = self.folder / "kept-logs"
         for disk in self.disks.values():
             disk.move_into(kept)
+        for path in (self.folder / ELSEWHERE / "logs/cache").glob("*"):
+            task, _, day = path.name.partition(".")
+            shutil.move(path, kept / "cache" / f"{task}-{ELSEWHERE}.{day}")
         self.disks["task-"].folder.rmdir()
         shutil.move(kept, self.disks["task-"].folder)
 

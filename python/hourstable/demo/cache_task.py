@@ -15,6 +15,7 @@ import json
 import logging
 import random
 import signal
+import sys
 import time
 from pathlib import Path
 from typing import Any
@@ -26,8 +27,8 @@ from hourstable.demo.shelf import Late, Locked, Session, Shelf
 from hourstable.library import slice_key
 from hourstable.ranges import Ranges, holds
 from hourstable.state import tickets_in
-from hourstable.task import ClockBroken, Denied, Drift, Hold, LeaseLost, Task
-from hourstable.tickets import Tickets, follow, real_milliseconds
+from hourstable.task import ClockBroken, Denied, Drift, Hold, LeaseLost, Overtaken, Task
+from hourstable.tickets import Tickets, real_milliseconds
 
 
 class Spans:
@@ -36,11 +37,12 @@ class Spans:
     for each read and write, also for one that came too late for the shelf. Nothing of Hourstable is
     in it."""
 
-    def __init__(self, path: Path, task: int) -> None:
-        self.file, self.task = open(path, "a", encoding="utf-8"), task
+    def __init__(self, folder: Path, task: int, place: str) -> None:
+        self.who: int | str = f"{task}-{place}" if place else task
+        self.file = open(folder / f"spans-{self.who}.jsonl", "a", encoding="utf-8")
 
     def note(self, key: str, what: str, begun: int, ended: int) -> None:
-        line = [self.task, key, what, begun, ended]
+        line = [self.who, key, what, begun, ended]
         self.file.write(json.dumps(line) + "\n")
         self.file.flush()
 
@@ -149,13 +151,15 @@ async def denials(request: web.Request, handler: Any) -> web.StreamResponse:
 
 async def run(words: argparse.Namespace) -> None:
     folder = Path(words.folder)
+    own = folder / words.place
     task = Task(
         words.control.split(","),
         words.job,
         words.task,
-        logs=folder / "logs",
+        logs=own / "logs",
+        state=own / "state",
         policy=json.loads(words.policy),
-        tickets=tickets_of(words, folder),
+        tickets=tickets_of(words, own),
         drift=Drift(words.drift),
         oldest=words.oldest,
         secret=secrets_in(words.secret_file)[0] if words.secret_file else None,
@@ -164,7 +168,7 @@ async def run(words: argparse.Namespace) -> None:
         on_gain=lambda _: fail_at_times(words.fail),
         on_lose=lambda ranges, _: lose(cache, ranges, words.fail),
     )
-    spans = Spans(folder / f"spans-{words.task}.jsonl", words.task)
+    spans = Spans(folder, words.task, words.place)
     cache = Cache(task, Shelf(folder / "shelf"), spans, words.work)
     app = web.Application(middlewares=[denials])
     app.router.add_put("/sessions/{key}", cache.write)
@@ -182,18 +186,19 @@ async def run(words: argparse.Namespace) -> None:
             done, _ = await asyncio.wait(waits, return_when=asyncio.FIRST_COMPLETED)
             for one in done:
                 one.result()
-    except ClockBroken as why:
+    except (ClockBroken, Overtaken) as why:
         print(why, flush=True)
     finally:
         await runner.cleanup()
         print(f"clock_behind_total {task.clock_behind_total}", flush=True)
 
 
-def tickets_of(words: argparse.Namespace, folder: Path) -> Tickets:
-    """The tickets of the task: by the real time if all processes are known to have the same."""
+def tickets_of(words: argparse.Namespace, folder: Path) -> Tickets | None:
+    """The tickets of the task: by the real time if all processes are known to have the same; else its own."""
+    if words.tickets == "follow":
+        return None
     path = tickets_in(folder / "state", None, words.job, f"task-{words.task}.ticket")
-    now = real_milliseconds if words.tickets == "time" else follow
-    return Tickets(63 + words.task, path, now=now)
+    return Tickets(63 + words.task, path, now=real_milliseconds)
 
 
 def main() -> None:
@@ -202,7 +207,8 @@ def main() -> None:
     parser.add_argument("--job", default="cache")
     parser.add_argument("--task", type=int, required=True)
     parser.add_argument("--port", type=int, required=True)
-    parser.add_argument("--folder", required=True, help="has logs, the shelf and spans")
+    parser.add_argument("--folder", required=True, help="has logs, state, the shelf and spans")
+    parser.add_argument("--place", default="", help="the folder in it that has logs and state, as of another host")
     parser.add_argument("--policy", required=True)
     parser.add_argument("--drift", type=int, default=Drift().extra, help="in a million")
     parser.add_argument("--oldest", type=int, help="ticks")
@@ -212,7 +218,10 @@ def main() -> None:
     parser.add_argument("--fail", type=float, default=0.0, help="the part of callbacks that raise, for tests")
     words = parser.parse_args()
     logging.basicConfig(level=logging.INFO, format="%(asctime)s %(name)s %(message)s")
-    asyncio.run(run(words))
+    try:
+        asyncio.run(run(words))
+    except BlockingIOError as why:
+        sys.exit(f"task {words.task} ends: {why}")
 
 
 if __name__ == "__main__":

@@ -19,11 +19,11 @@ IDS = 32  # how many ids of writes a line of the shelf has
 
 
 class Span(NamedTuple):
-    """A task worked for a key between two times."""
+    """A task worked for a key between two times. A process of it elsewhere has its place behind the number."""
 
     begun: int
     ended: int
-    task: int
+    task: str
     what: str
 
 
@@ -51,11 +51,11 @@ def overlaps(folder: Path) -> tuple[list[str], int]:
     """Finds keys for which two tasks worked at once."""
     spans: dict[str, list[Span]] = defaultdict(list)
     for task, key, what, begun, ended in lines_of(folder, "spans-*.jsonl"):
-        spans[key].append(Span(begun, ended, task, what))
+        spans[key].append(Span(begun, ended, str(task), what))
     faults = []
     for key, them in sorted(spans.items()):
         them.sort()
-        latest: dict[int, Span] = {}  # of each task, the span that ends last
+        latest: dict[str, Span] = {}  # of each task, the span that ends last
         for span in them:
             for task, before in latest.items():
                 if task != span.task and before.ended > span.begun:
