@@ -20,9 +20,12 @@ var errOtherJob = errors.New("it begins with another job line")
 // lines.
 //
 // What goes wrong with the log, as a full disk, stops it and not the process. It then
-// lacks lines, so it goes on in a new part, which has lines of later lives alone.
+// lacks lines, so it goes on in a new part, which has lines of later lives alone. Until
+// then a file beside it says what is missing, for which there is room: the process may end
+// first, and others have logged what it sent them.
 type callLog struct {
 	folder, name string
+	spare        spareLine
 	job          []byte
 	stopped      func(error) // told why the log stops
 
@@ -54,6 +57,11 @@ type gap struct {
 	Until uint64 `json:"until"`
 }
 
+// line returns the line that says it.
+func (g gap) line() []byte {
+	return []byte(fmt.Sprintf(`{"gap":{"lines":%d,"from":%d,"until":%d}}`+"\n", g.Lines, g.From, g.Until))
+}
+
 // batch is lines that are written together, so that who writes side by side waits for
 // one write.
 type batch struct {
@@ -77,14 +85,21 @@ func jobLine(policy map[string]any) ([]byte, error) {
 func openLog(folder, name string, job []byte, stopped func(error)) (*callLog, error) {
 	made := &callLog{
 		folder: folder, name: name, job: job, stopped: stopped, part: 1, since: time.Now(),
+		spare:    spareLine(filepath.Join(folder, name+"-gap.jsonl")),
 		failures: backoff{least: time.Second, most: 5 * time.Minute},
 	}
 	defer made.tell()
 	made.mutex.Lock()
 	defer made.mutex.Unlock()
-	if err := made.turn(utcDay()); errors.Is(err, errOtherJob) {
+	made.missing = made.spare.read() // of the process before
+	err := made.turn(utcDay())
+	if errors.Is(err, errOtherJob) {
 		return nil, err
-	} else if err != nil {
+	}
+	if err == nil {
+		err = made.tellGap()
+	}
+	if err != nil {
 		made.stop(err)
 	}
 	return made, nil
@@ -286,20 +301,18 @@ func (l *callLog) open() (part uint64) {
 	return l.part
 }
 
-// tellGap writes what is missing; the mutex is held.
+// tellGap writes what is missing, and makes room to say what will be; the mutex is held.
 func (l *callLog) tellGap() error {
-	if l.missing.Lines == 0 {
-		return nil
-	}
-	text, err := json.Marshal(map[string]gap{"gap": l.missing})
-	if err == nil {
-		_, err = l.file.Write(append(text, '\n'))
-	}
-	if err == nil {
-		l.size += int64(len(text)) + 1
+	if l.missing.Lines > 0 {
+		text := l.missing.line()
+		if _, err := l.file.Write(text); err != nil {
+			return err
+		}
+		l.size += int64(len(text))
 		l.missing = gap{}
 	}
-	return err
+	_ = l.spare.clear()
+	return nil
 }
 
 // lose counts lines that are not written; the mutex is held.
@@ -316,6 +329,9 @@ func (l *callLog) lose(lines [][]byte) {
 		if call.Ticket > l.missing.Until {
 			l.missing.Until = call.Ticket
 		}
+	}
+	if l.missing.Lines > 0 {
+		_ = l.spare.write(l.missing.line()) // none if it was never made
 	}
 }
 

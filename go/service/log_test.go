@@ -190,6 +190,77 @@ func TestALogThatIsOpenedOnAFullDisk(t *testing.T) {
 	}
 }
 
+// A process may end while its disk is full, and the next one begin on it: a file beside the log says what is missing, and
+// the log once there is room.
+func TestALogThatEndsOnAFullDisk(t *testing.T) {
+	folder := t.TempDir()
+	path, beside := filepath.Join(folder, "task-1."+utcDay()+".jsonl"), filepath.Join(folder, "task-1-gap.jsonl")
+	open := func() *callLog {
+		log, err := openLog(folder, "task-1", []byte(`{"job":{}}`), func(error) {})
+		if err != nil {
+			t.Fatal(err)
+		}
+		return log
+	}
+	told := func(of string) string {
+		text, err := os.ReadFile(of)
+		if err != nil {
+			t.Fatal(err)
+		}
+		return strings.TrimRight(string(text), "\n")
+	}
+	log := open()
+	if found, err := os.Stat(beside); err != nil || found.Size() != room || told(beside) != "" {
+		t.Error(found, err)
+	}
+	if err := os.Rename(path, path+".kept"); err != nil {
+		t.Fatal(err)
+	}
+	if err := os.Symlink(sealed(t, "{\"job\":{}}\n"), path); err != nil {
+		t.Fatal(err)
+	}
+	for _, ticket := range []string{"70", "80"} { // two processes, each of which is killed
+		part := log.open()
+		log.mutex.Lock()
+		log.stop(errors.New("the disk is full"))
+		log.mutex.Unlock()
+		log.append(part, []byte(`{"ticket":`+ticket+`}`))
+		log = open()
+	}
+	log.close()
+	if found := told(beside); found != `{"gap":{"lines":2,"from":70,"until":80}}` {
+		t.Errorf("%q", found)
+	}
+	if err := os.Rename(path+".kept", path); err != nil {
+		t.Fatal(err)
+	}
+	log = open()
+	log.append(log.open(), []byte(`{"ticket":90}`))
+	log.close()
+	if found := told(path); found != `{"job":{}}`+"\n"+`{"gap":{"lines":2,"from":70,"until":80}}`+"\n"+`{"ticket":90}` {
+		t.Errorf("%q", found)
+	}
+	if found := told(beside); found != "" {
+		t.Errorf("%q", found)
+	}
+}
+
+// A crash may tear the line that is written over. It then says nothing.
+func TestASpareLineThatIsTorn(t *testing.T) {
+	line := spareLine(filepath.Join(t.TempDir(), "task-1-gap.jsonl"))
+	if err := os.WriteFile(string(line), []byte(`{"gap":{"lines":2,`), 0o600); err != nil {
+		t.Fatal(err)
+	}
+	if line.read() != (gap{}) || line.clear() != nil || line.read() != (gap{}) {
+		t.Error("it says something")
+	}
+	for _, wanted := range []gap{{1 << 40, 1<<64 - 1, 1<<64 - 1}, {1, 2, 2}} {
+		if err := line.write(wanted.line()); err != nil || line.read() != wanted {
+			t.Error(err, line.read())
+		}
+	}
+}
+
 // sealed returns the path of a file with a text that takes no more, as one on a full disk.
 func sealed(t *testing.T, text string) string {
 	t.Helper()

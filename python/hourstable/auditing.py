@@ -66,7 +66,7 @@ def gaps_of(folder: Path, above: int = 0) -> list[Gap]:
 
 
 def _gaps_in(folder: Path) -> Iterator[Gap]:
-    for path in logs.files_of(folder):
+    for path in (*logs.files_of(folder), *logs.spares_of(folder)):  # what a log lacks and does not say comes last
         with open(path, "rb") as lines:
             for number, line in enumerate(lines, 1):
                 if line.startswith(logs.GAP):

@@ -23,7 +23,7 @@ from .calls import TIMEOUT, WAIT, Control, Troubles, Unreachable
 from .clock import local_clock as local_clock_of
 from .kept_log import KeptLog
 from .library import CALLS, Clerk, Found, LoggedCall, Refused, log_line, owners_of, slice_key
-from .logs import CLERKS, Log, folder_of, job_line
+from .logs import CLERKS, LogFiles, folder_of, job_line
 from .state import tickets_in
 from .supervisor import Supervisor
 from .system import SYSTEM, System
@@ -219,10 +219,10 @@ class Router:
     async def _open_log(self, logs: str | os.PathLike[str]) -> None:
         policy = await self._control.read(partial(replies.policy_in, self.job), "GET")
         folder, name = folder_of(logs, self.job), f"clerk-{self.clerk}"
-        opens = partial(Log, folder, name, job_line(policy), keep=self._keep_logs, system=self._system)
+        files = LogFiles(folder, name, job_line(policy), self._keep_logs, self._system)
         try:
             self._log = KeptLog(
-                opens, f"clerk {self.clerk}", logger, self.metrics.log_missing.inc, self._system.monotonic
+                files, f"clerk {self.clerk}", logger, self.metrics.log_missing.inc, self._system.monotonic
             )
         except ValueError as why:
             logger.error("clerk %d: nothing is logged: %s", self.clerk, why)

@@ -404,9 +404,9 @@ class Job:
         if settings.logs is None:
             return logs.NoLog()
         folder, name = logs.folder_of(settings.logs, self.name), f"control-{settings.process}"
-        opens = partial(logs.Log, folder, name, job, keep=settings.keep_logs, system=settings.system)
+        files = logs.LogFiles(folder, name, job, settings.keep_logs, settings.system, has_spare=False)
         missing = partial(self._counters.log_missing, self.name)
-        return KeptLog(opens, f"job {self.name}", log, missing, self._now, must_open=True)
+        return KeptLog(files, f"job {self.name}", log, missing, self._now, must_open=True)
 
     def _policy_in(self, stored: Stored) -> tuple[Policy, dict[str, Any]]:
         try:

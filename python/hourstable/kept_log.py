@@ -2,23 +2,23 @@
 
 Lines that the disk does not take are left out, and so are all that follow, until the process begins anew with what
 the lines are about: a task with another life, a clerk with nothing learnt, a plane with a table that it restores. The
-log then has a line that says what is missing, which `hourstable-service audit` tells.
+log then has a line that says what is missing, which `hourstable-service audit` tells. Until then a file beside it
+says so, for which there is room: a process may end first, and others have logged what it sent them.
 """
 
 import errno
 import logging
 from collections.abc import Callable, Sequence
+from contextlib import suppress
 
-from .logs import Log, calls_in, gap_line
+from .logs import Calls, Log, LogFiles, calls_in, gap_in, gap_line
 
 AGAIN = 1.0  # seconds after which a log that stopped is tried again
 FULL = (errno.ENOSPC, errno.EDQUOT, errno.EFBIG, errno.EROFS, errno.EIO)  # of a disk that takes nothing
-Opens = Callable[[], Log]
 
 
 class KeptLog:
-    """A log of `opens`, which returns it open. `count(lines)` is told of lines that are left out, and `now` returns
-    seconds that never fall.
+    """A log in files. `count(lines)` is told of lines that are left out, and `now` returns seconds that never fall.
 
     Raises ValueError if the file of today is of another job. A disk that takes nothing is no error; with `must_open`
     each other reason for which the log cannot be opened is one, and is raised.
@@ -27,18 +27,19 @@ class KeptLog:
     is_kept = True  # whether lines that are appended are of use to anybody
 
     def __init__(
-        self, opens: Opens, name: str, log: logging.Logger, count: Callable[[int], object],
+        self, files: LogFiles, name: str, log: logging.Logger, count: Callable[[int], object],
         now: Callable[[], float], must_open: bool = False,
     ) -> None:
-        self._opens, self._name, self._told = opens, name, log
+        self._files, self._name, self._told = files, name, log
         self._count, self._now = count, now
         self._log: Log | None = None
         self._tried = now()
-        self._missing = 0
-        self._first = self._last = 0  # tickets of what is missing
+        self._spare = files.spare()
+        self._missing, self._first, self._last = self._left()  # lines, and the tickets of the first and the last
         self._is_ready = False  # whether the disk takes lines again
         try:
-            self._log = opens()
+            self._log = files.open()
+            self._tell_gap()
         except OSError as why:
             if must_open and why.errno not in FULL:
                 raise
@@ -86,7 +87,7 @@ class KeptLog:
             return self._is_ready
         self._tried = self._now()
         try:
-            self._log = self._opens()
+            self._log = self._files.open()
             self._tell_gap()
         except (OSError, ValueError):
             self._drop()
@@ -108,7 +109,7 @@ class KeptLog:
         """Closes the file, with a line of what is missing if the disk takes it."""
         try:
             if self._missing and self._log is None:
-                self._log = self._opens()
+                self._log = self._files.open()
             self._tell_gap()
         except (OSError, ValueError) as why:
             self._told.warning("%s: %d lines are missing at the end of the log: %s", self._name, self._missing, why)
@@ -136,9 +137,23 @@ class KeptLog:
         self._last = calls.last
         self._missing += calls.lines
         self._count(calls.lines)
+        if self._spare is not None:
+            with suppress(OSError):  # it was never made
+                self._spare.write(*self.gap())
+
+    def _left(self) -> Calls:
+        """Returns what is missing of a process before, whose log does not say so."""
+        left = ""
+        if self._spare is not None:
+            with suppress(OSError, ValueError):
+                left = self._spare.read()
+        return gap_in(left)
 
     def _tell_gap(self) -> None:
-        """Writes what is missing so far. Raises OSError and ValueError."""
+        """Writes what is missing so far, and makes room to say what will be. Raises OSError and ValueError."""
         if self._missing and self._log is not None:
             self._log.append(*self.gap())
             self._missing = self._first = self._last = 0
+        if self._spare is not None:
+            with suppress(OSError):
+                self._spare.clear()

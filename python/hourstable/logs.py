@@ -7,7 +7,8 @@ loses none.
 Space is allocated ahead of the lines, so a disk that is full tears no line and takes one that says
 what is missing. A line that begins with `{"gap":` is no call: it says which calls the log lacks, as
 the disk did not take them or their file was removed. `hourstable-service audit` reads it, and
-`hourstable audit` refuses a log that has one.
+`hourstable audit` refuses a log that has one. While the log lacks lines of which it does not say so, the file
+NAME-gap.jsonl says it, which is blank else.
 """
 
 import datetime
@@ -23,12 +24,12 @@ from functools import lru_cache, partial
 from pathlib import Path
 from typing import Any, NamedTuple
 
-from hourstable.segments import GrowingFile
+from hourstable.segments import GrowingFile, SpareLine
 from hourstable.system import SYSTEM, System, make_folder
 
 ASSIGNERS, TASKS = 8, 64  # the most that a job may have
 CLERKS = 128  # as many as have a ticket process of their own
-ENDING = ".jsonl"
+ENDING, SPARE_ENDING = ".jsonl", "-gap.jsonl"
 GAP = b'{"gap":'  # the beginning of a line that is no call
 A_DAY = 86_400_000_000_000  # nanoseconds
 PIECE = 1 << 20  # bytes of a file that are looked through at a time
@@ -210,6 +211,26 @@ class Log:
                 log.warning("%s was not removed: %s", path, error)
 
 
+class LogFiles(NamedTuple):
+    """Where the log of a process for a job is, as `Log` takes it. `has_spare` is whether a file beside it says what
+    it lacks: not of a control plane, whose store has that."""
+
+    folder: Path
+    name: str
+    job: str
+    keep: int | None = None
+    system: System = SYSTEM
+    today: Callable[[], str] | None = None
+    has_spare: bool = True
+
+    def open(self) -> Log:
+        return Log(self.folder, self.name, self.job, today=self.today, keep=self.keep, system=self.system)
+
+    def spare(self) -> SpareLine | None:
+        """Returns the file that says what the log lacks and does not say."""
+        return SpareLine(self.system, self.folder / f"{self.name}{SPARE_ENDING}") if self.has_spare else None
+
+
 class NoLog:
     """In place of a log that is left out."""
 
@@ -247,6 +268,14 @@ def gap_line(lines: int, first: int, last: int, **members: str) -> str:
     """Returns the line of a log that says how many lines it lacks, and the tickets of the first and
     the last of them. With the member `file` it is all of a file that was removed."""
     return COMPACT.encode({"gap": {"lines": lines, "from": first, "until": last, **members}})
+
+
+def gap_in(line: str) -> "Calls":
+    """Returns what the line of a gap says; nothing is missing if it is empty or torn."""
+    try:
+        return _calls_of(json.loads(line))
+    except (ValueError, LookupError, TypeError):
+        return Calls(0, 0, 0)
 
 
 class Calls(NamedTuple):
@@ -340,7 +369,12 @@ def last_ticket(path: Path) -> int:
 
 def files_of(folder: str | os.PathLike[str]) -> list[Path]:
     """Returns the files of all logs of a job, by name."""
-    return sorted(Path(folder).glob(f"*{ENDING}"))
+    return sorted(path for path in Path(folder).glob(f"*{ENDING}") if not path.name.endswith(SPARE_ENDING))
+
+
+def spares_of(folder: str | os.PathLike[str]) -> list[Path]:
+    """Returns the files that say what logs of a job lack and do not say, by name."""
+    return sorted(Path(folder).glob(f"*{SPARE_ENDING}"))
 
 
 def lay_out(

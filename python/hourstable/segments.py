@@ -1,8 +1,10 @@
-"""A file that grows at its end, into space that is allocated ahead.
+"""Files that have room on a disk that is full: one that grows at its end, into space that is allocated ahead, and one
+of a line that is written over.
 
 The space is allocated beyond the end of the file, so its length is that of what was written, and
 who reads it meets no zeros. A disk that is full refuses the next segment while the last one still
-has room: so it tears no line, and there is room to say that lines are missing.
+has room: so it tears no line, and there is room to say that lines are missing. Where nothing is allocated ahead, or a
+process has just begun, the line that is written over has room.
 """
 
 import errno
@@ -13,6 +15,7 @@ from hourstable.system import System
 
 SEGMENT = 1 << 20  # bytes that are allocated at a time
 SPARE = 4096  # bytes that stay free for what is written when no segment is to be had
+ROOM = 256  # bytes of a line that is written over
 NOT_DONE = (errno.EOPNOTSUPP, errno.ENOSYS, errno.EINVAL)  # by some filesystems, as NFS before version 4.2
 
 
@@ -74,3 +77,34 @@ class GrowingFile:
             pass  # it stays allocated
         finally:
             self._system.close(self._file)
+
+
+class SpareLine:
+    """A file of one line that is written over, so that there is room for it once the file is there. Each method
+    raises OSError."""
+
+    def __init__(self, system: System, path: Path) -> None:
+        self._system, self._path = system, path
+
+    def clear(self) -> None:
+        """Makes the file with no line, if it is not so."""
+        if not self._path.exists() or self._path.read_bytes() != b"\n" * ROOM:
+            self._over(os.O_CREAT, b"")
+
+    def write(self, line: str) -> None:
+        """Writes a line over the one before, or over none."""
+        self._over(0, line.encode())
+
+    def read(self) -> str:
+        """Returns the line, empty if there is none."""
+        try:
+            return self._path.read_text(encoding="utf-8").strip()
+        except FileNotFoundError:
+            return ""
+
+    def _over(self, flags: int, data: bytes) -> None:
+        file = self._system.open(self._path, os.O_WRONLY | os.O_CLOEXEC | flags, 0o600)
+        try:
+            self._system.write_at(file, (data + b"\n").ljust(ROOM, b"\n"), 0)
+        finally:
+            self._system.close(file)

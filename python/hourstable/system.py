@@ -74,6 +74,10 @@ class System:
         """Writes bytes to an open file, and returns how many it took. Raises OSError."""
         return os.write(file, data)
 
+    def write_at(self, file: int, data: bytes, start: int) -> int:
+        """Writes bytes over those of an open file from a place on, and returns how many it took. Raises OSError."""
+        return os.pwrite(file, data, start)
+
     def allocate(self, file: int, start: int, length: int) -> None:
         """Allocates space for bytes of an open file, whose length stays. Raises OSError, with EOPNOTSUPP if its
         filesystem does not do that."""

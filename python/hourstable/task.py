@@ -32,7 +32,7 @@ from .context import about
 from .kept_log import KeptLog
 from .leases import KINDS, ClockBehind, Entered, Leases, NoToken, policy_of
 from .library import Phase, Policy, Refused, TaskClock, ended_note, slice_key
-from .logs import TASKS, Log, NoLog, folder_of, job_line
+from .logs import TASKS, LogFiles, NoLog, folder_of, job_line
 from .moves import Moves, OnGain, OnLose
 from .own_lives import EVICTED, OVERTAKEN, WAITING, Life, OwnLives
 from .phases import Phases
@@ -346,8 +346,8 @@ class Task:
         if self._folder is None:
             return NoLog()
         name, system = f"task-{self.task}", self._system
-        opens = partial(Log, self._folder, name, job, keep=self._keep_logs, system=system)
-        return KeptLog(opens, f"task {self.task}", logger, self.metrics.log_missing.inc, system.monotonic)
+        files = LogFiles(self._folder, name, job, self._keep_logs, system)
+        return KeptLog(files, f"task {self.task}", logger, self.metrics.log_missing.inc, system.monotonic)
 
     async def wait(self) -> None:
         """Waits until the task has ended: by `stop`, or by what cannot mend itself, which it raises: ClockBroken or

@@ -17,8 +17,7 @@ def gather(folder: Path, job: str) -> Path:
     for path in sorted(folder.glob(f"10.*/{job}/*{logs.ENDING}")):
         made = into / path.name
         if made.exists():
-            name, _, day = path.name.partition(".")
-            made = into / f"{name}-at-{path.parents[1].name.replace('.', '-')}.{day}"
+            made = into / f"{path.parents[1].name.replace('.', '-')}-{path.name}"
         made.write_bytes(path.read_bytes())
     return into
 

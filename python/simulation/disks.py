@@ -64,8 +64,22 @@ class Disk:
         if self.full_below and self._is_full(name) and os.fstat(file).st_size + len(data) > known.allocated:
             raise OSError(errno.ENOSPC, "no space left on device", name)
         length = os.write(file, data)
+        self._note_length(process, file)
+        return length
+
+    def _note_length(self, process: "Process", file: int) -> None:
         if self.may_lose:
-            known.grown.append((process.world.now, os.fstat(file).st_size))
+            _, name = self._open[file]
+            self._files[name].grown.append((process.world.now, os.fstat(file).st_size))
+
+    def write_at(self, process: "Process", file: int, data: bytes, start: int) -> int:
+        """Writes over bytes of a file, for which there is room also once the disk is full."""
+        _, name = self._open[file]
+        end = start + len(data)
+        if self._is_full(name) and end > max(os.fstat(file).st_size, self._files[name].allocated):
+            raise OSError(errno.ENOSPC, "no space left on device", name)
+        length = os.pwrite(file, data, start)
+        self._note_length(process, file)
         return length
 
     def allocate(self, file: int, end: int) -> None:

@@ -52,6 +52,9 @@ class Machine(System):
             self._world.may_stall()
         return self._host.disk.write(self.process, file, data)
 
+    def write_at(self, file: int, data: Any, start: int) -> int:
+        return self._host.disk.write_at(self.process, file, data, start)
+
     def allocate(self, file: int, start: int, length: int) -> None:
         self._host.disk.allocate(file, start + length)
 

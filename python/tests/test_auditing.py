@@ -263,13 +263,16 @@ def test_gaps_of_logs(tmp_path: Path) -> None:
     written(tmp_path, "c.2026-01-01.jsonl", gap(2, 13, 14), call(13), call(14))  # logged after all
     written(tmp_path, "d.2026-01-01.jsonl", gap(1, 15, 15))
     written(tmp_path, "e.2026-01-05.jsonl", call(15), gap(0, 2, 3, file="e.2026-01-01.jsonl"))
+    written(tmp_path, "f-gap.jsonl", gap(3, 21, 23))
+    written(tmp_path, "f.2026-01-01.jsonl", call(20), gap(2, 21, 22))  # and that of the file beside the log
     assert [str(gap) for gap in gaps_of(tmp_path)] == [
         "a.2026-01-01.jsonl:4: 4 lines are missing, tickets 6 to 9",
         "b.2026-01-01.jsonl:3: 2 lines are missing, tickets 11 to 12",
         "e.2026-01-05.jsonl:3: e.2026-01-01.jsonl was removed and not audited, tickets 2 to 3",
+        "f-gap.jsonl:2: 3 lines are missing, tickets 21 to 23",
     ]
-    assert len(gaps_of(tmp_path, 3)) == 3
-    assert len(gaps_of(tmp_path, 4)) == 2
+    assert len(gaps_of(tmp_path, 3)) == 4
+    assert len(gaps_of(tmp_path, 4)) == 3
 
 
 def test_an_audit_never_says_one_over_a_gap(tmp_path: Path, capfd: Said) -> None:

@@ -16,7 +16,7 @@ from hourstable import logs
 from hourstable.auditing import Gap, gaps_of
 from hourstable.client import Router
 from hourstable.kept_log import KeptLog
-from hourstable.logs import Log, job_line
+from hourstable.logs import Log, LogFiles, job_line
 from hourstable.system import System
 from hourstable.task import Task
 from lines import line_of
@@ -59,6 +59,11 @@ def missing(metrics: Any) -> int:
     raise AssertionError("there is no counter")
 
 
+def names_of_gaps(folder: Path) -> set[str]:
+    """Returns the names of the files that say what is missing, without their days."""
+    return {gap.file.partition(".")[0] for gap in gaps_of(folder / JOB)}
+
+
 def audited(folder: Path, program: str) -> "subprocess.CompletedProcess[str]":
     words = [sys.executable, "-m", "hourstable", "audit", "--hourstable", program, str(folder)]
     return subprocess.run(words, capture_output=True, text=True, check=False)
@@ -82,7 +87,7 @@ async def test_a_task_serves_while_its_disk_is_full(plane: Plane, tmp_path: Path
         assert await ground(task, "hello") == ""
     gaps = gaps_of(tmp_path / JOB)
     assert sum(gap.missing for gap in gaps) == missing(task.metrics)
-    assert {gap.file.partition(".")[0] for gap in gaps} == {"task-1"}
+    assert names_of_gaps(tmp_path) == {"task-1"}
     ran = audited(tmp_path / JOB, program)
     assert ran.returncode == 1, ran
     assert ran.stdout.startswith("audit gaps\n") and "audit one" not in ran.stdout, ran
@@ -113,7 +118,7 @@ async def test_a_task_starts_on_a_full_disk(plane: Plane, tmp_path: Path) -> Non
         assert await ground(task, "hello") == ""
         assert not list((tmp_path / JOB).glob("task-1.*.jsonl"))
         disk.is_full = False
-        await until(lambda: bool(gaps_of(tmp_path / JOB)) and task.served() == LOWER)
+        await until(lambda: names_of_gaps(tmp_path) == {"task-1"} and task.served() == LOWER)
         assert await ground(task, "hello") == ""
 
 
@@ -128,7 +133,7 @@ async def test_a_router_knows_owners_while_its_disk_is_full(plane: Plane, tmp_pa
         assert router.pick("hello") == 2
         assert missing(router.metrics) == 3  # two looks, and what was learnt
         disk.is_full = False
-        await until(lambda: router.pick("hello") == 2 and bool(gaps_of(tmp_path / JOB)))
+        await until(lambda: router.pick("hello") == 2 and names_of_gaps(tmp_path) == {"clerk-3"})
         assert router.pick("abc") == 2 and router.generation == 2
     ran = audited(tmp_path / JOB, program)
     assert ran.stdout.startswith("audit gaps\n"), ran
@@ -141,10 +146,8 @@ async def test_a_router_knows_owners_while_its_disk_is_full(plane: Plane, tmp_pa
 def kept_log(folder: Path, disk: Disk, now: Callable[[], float], counted: list[int]) -> KeptLog:
     import logging
 
-    def opens() -> Log:
-        return Log(folder, "task-1", job_line(POLICY), today=lambda: "2026-11-29", system=disk)
-
-    return KeptLog(opens, "task 1", logging.getLogger("hourstable.test"), counted.append, now)
+    files = LogFiles(folder, "task-1", job_line(POLICY), system=disk, today=lambda: "2026-11-29")
+    return KeptLog(files, "task 1", logging.getLogger("hourstable.test"), counted.append, now)
 
 
 def test_what_is_missing_stands_in_the_log(tmp_path: Path) -> None:
@@ -171,6 +174,55 @@ def test_what_is_missing_stands_in_the_log(tmp_path: Path) -> None:
     assert sum(counted) == 3
     laid = logs.lay_out(tmp_path, tmp_path / "laid")[0].read_text().splitlines()
     assert [bool(line) for line in laid] == [True, True, False, False, True]
+
+
+NAME, SPARE = "task-1.2026-11-29.jsonl", "task-1-gap.jsonl"
+
+
+@pytest.mark.parametrize("is_closed", [False, True])
+def test_a_process_that_ends_on_a_full_disk_has_said_what_is_missing(tmp_path: Path, is_closed: bool) -> None:
+    """Also one that begins on it. The next one says it in the log, once there is room."""
+    disk = Disk()
+    for at in (101, 103, 105):
+        log = kept_log(tmp_path, disk, lambda: 0.0, [])
+        disk.is_full = at < 105
+        log.append(line_of(at, "serve", "denied no-lease", task=1, at=6, slice_key=7))
+        log.append(line_of(at + 1, "serve", "denied no-lease", task=1, at=6, slice_key=7))
+        if at < 105:
+            assert gaps_of(tmp_path) == [Gap(SPARE, 1, at - 99, 101, at + 1)]
+        if is_closed:
+            log.close()
+        disk.is_full = at == 101
+    assert gaps_of(tmp_path) == [Gap(NAME, 2, 4, 101, 104)]
+    assert [it["ticket"] for it in logs.merged(tmp_path)] == [105, 106]
+    assert not (tmp_path / SPARE).read_text().strip()
+    assert [it.name for it in logs.files_of(tmp_path)] == [NAME]
+
+
+def test_a_line_that_a_crash_tore_says_nothing(tmp_path: Path) -> None:
+    kept_log(tmp_path, Disk(), lambda: 0.0, []).close()
+    (tmp_path / SPARE).write_text('{"gap":{"lines":2,')
+    kept_log(tmp_path, Disk(), lambda: 0.0, []).close()
+    assert gaps_of(tmp_path) == []
+
+
+async def test_a_note_is_sent_over_a_gap_that_is_told(plane: Plane, tmp_path: Path) -> None:
+    """The task is killed while its disk is full: the plane has logged a note that no line of the task's log sends."""
+    program, disk = needed.program(), Disk()
+    task = Task(plane.url, JOB, 1, logs=tmp_path, policy=plane.policy, timeout=2.0, system=disk)
+    await task.start()
+    await until(lambda: task.served() == LOWER)
+    disk.is_full = True
+    plane.propose(2, [(0, 2)])
+    await until(lambda: any(what == "free" for what, _ in plane.asked))
+    for loop in task._loops:  # as a kill: nothing is written any more
+        loop.cancel()
+    ran = audited(tmp_path / JOB, program)
+    assert "should be \"refused not-sent\": no line of the logs sends it" in ran.stdout
+    assert [it.file for it in gaps_of(tmp_path / JOB)] == [SPARE]
+    assert f"\ngap {SPARE}:1: " in ran.stdout
+    disk.is_full = False
+    await task.stop()
 
 
 def test_the_log_of_another_job_is_an_error(tmp_path: Path) -> None:

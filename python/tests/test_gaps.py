@@ -15,7 +15,7 @@ needed.library()
 
 from hourstable import logs  # noqa: E402
 from hourstable.logs import Log, gap_line  # noqa: E402
-from hourstable.segments import SEGMENT, SPARE  # noqa: E402
+from hourstable.segments import SEGMENT, SPARE, SpareLine  # noqa: E402
 from hourstable.system import System  # noqa: E402
 from lines import line_of  # noqa: E402
 
@@ -47,6 +47,11 @@ class SmallDisk(System):
         if os.fstat(file).st_size + len(data) > self.room:
             raise OSError(errno.ENOSPC, "no space left on device")
         return os.write(file, data)
+
+    def write_at(self, file: int, data: bytes, start: int) -> int:
+        if start + len(data) > max(os.fstat(file).st_size, self.room):
+            raise OSError(errno.ENOSPC, "no space left on device")
+        return os.pwrite(file, data, start)
 
 
 def logged(folder: Path, system: System) -> Log:
@@ -129,13 +134,32 @@ def test_a_filesystem_that_allocates_nothing(tmp_path: Path) -> None:
     assert text(tmp_path) == [JOB, line(1)]
 
 
+def test_a_line_that_is_written_over_has_room(tmp_path: Path) -> None:
+    """Once its file is there, whoever fills the disk. A shorter line leaves nothing of a longer one."""
+    disk = SmallDisk(1 << 40)
+    spare = SpareLine(disk, tmp_path / "task-1-gap.jsonl")
+    spare.clear()
+    disk.room = 0
+    longest, short = gap_line(1 << 40, (1 << 64) - 1, (1 << 64) - 1), gap_line(1, 2, 2)
+    for told in (longest, short, longest):
+        spare.write(told)
+        assert spare.read() == told
+    spare.clear()
+    assert spare.read() == ""
+    with pytest.raises(OSError, match="no space left"):
+        SpareLine(disk, tmp_path / "task-2-gap.jsonl").clear()
+
+
 def test_a_real_disk_that_is_full(tmp_path: Path) -> None:
     """A filesystem of 3 MB is filled, and emptied again."""
     disk = tmp_path / "disk"
     disk.mkdir()
     program = f"""
 import os
-from hourstable.logs import Log
+from pathlib import Path
+from hourstable.logs import Log, LogFiles
+spare = LogFiles(Path({str(disk)!r}), "task-1", {JOB!r}).spare()
+spare.clear()
 log = Log({str(disk)!r}, "task-1", {JOB!r}, today=lambda: {DAY!r})
 with open({str(disk / "other")!r}, "wb") as other:
     os.posix_fallocate(other.fileno(), 0, 1_500_000)
@@ -144,6 +168,8 @@ try:
         log.append({line(1)!r})
 except OSError as error:
     print(error.strerror)
+spare.write({gap_line(1, 2, 2)!r})
+print(spare.read())
 os.unlink({str(disk / "other")!r})
 log.append({line(2)!r})
 log.close()
@@ -157,8 +183,8 @@ print(open({str(disk / f"task-1.{DAY}.jsonl")!r}).read(), end="")
         [*unshare, "sh", "-c", mount, program], check=True, timeout=120, capture_output=True, text=True
     )
     found = ran.stdout.splitlines()
-    assert found[:2] == ["No space left on device", JOB]
-    assert set(found[2:-2]) == {line(1)}
+    assert found[:3] == ["No space left on device", gap_line(1, 2, 2), JOB]
+    assert set(found[3:-2]) == {line(1)}
     assert found[-2:] == ['{"gap":{"lines":1,"from":1,"until":1}}', line(2)]
 
 

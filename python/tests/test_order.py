@@ -5,7 +5,6 @@ import json
 import logging
 from collections import Counter
 from collections.abc import Mapping
-from functools import partial
 from pathlib import Path
 from typing import Any
 
@@ -20,7 +19,7 @@ from hourstable.calls import READING, Answer, Control  # noqa: E402
 from hourstable.kept_log import KeptLog  # noqa: E402
 from hourstable.leases import Leases, held_in, policy_of  # noqa: E402
 from hourstable.library import Policy, Table, TaskClock  # noqa: E402
-from hourstable.logs import Log, job_line  # noqa: E402
+from hourstable.logs import LogFiles, job_line  # noqa: E402
 from hourstable.ranges import KEYS  # noqa: E402
 from hourstable.store import Store  # noqa: E402
 from hourstable.tickets import Tickets, follow  # noqa: E402
@@ -61,8 +60,8 @@ def granted(life: int, at: int) -> tuple[bytes, Policy]:
 
 def started(folder: Path, tickets: Stopped, life: int = 1) -> Leases:
     """Returns a life of task 1 that is started, whose calls are logged."""
-    opens = partial(Log, folder / JOB, "task-1", job_line(LONG))
-    log = KeptLog(opens, "task 1", logging.getLogger(__name__), list[int]().append, lambda: 0.0)
+    files = LogFiles(folder / JOB, "task-1", job_line(LONG))
+    log = KeptLog(files, "task 1", logging.getLogger(__name__), list[int]().append, lambda: 0.0)
     leases = Leases(JOB, 1, life, life - 1, TaskClock(1, 1_000_000, 2, 50_000), lambda: tickets.clock, tickets, log)
     leases.sample(tickets.clock, tickets.clock)
     leases.start()
