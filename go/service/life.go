@@ -32,13 +32,29 @@ func (t *Task) comeIn(ctx context.Context) (time.Duration, error) {
 	if now, err := t.config.local(); err != nil || now-made.sent >= t.policy.Guard/2 {
 		return 0, err // it was stopped, and another life may be let in since
 	}
-	held, err := t.beginLife(life, epoch)
+	ended := t.endedBefore(life, made.reading)
+	held, err := t.beginLife(life, ended, epoch)
 	if err != nil {
 		return 0, err
 	}
 	t.lives.heard(life.Life)
-	t.freeDropped()
+	t.freeDropped(ended)
 	return t.hear(held, made)
+}
+
+// endedBefore returns the life that has ended before one that was let in at a reading. It
+// is the one that was given out before, whoever drew it, or lost the answer; but the one
+// that was dropped if its lease lasted: then none was let in since.
+func (t *Task) endedBefore(life ownLife, at *uint64) uint32 {
+	t.mutex.Lock()
+	defer t.mutex.Unlock()
+	ended := life.Last
+	for _, it := range t.dropped {
+		if it.key != "" && at != nil && *at < it.until {
+			ended = it.life
+		}
+	}
+	return ended
 }
 
 // letIn asks to be let in with a life. epoch is that of the job, 0 if a plane of a version
@@ -103,8 +119,8 @@ func (t *Task) drawLife(ctx context.Context) (ownLife, error) {
 	return told, t.lives.draw(told)
 }
 
-// beginLife begins a life that is let in, with a clock of its own.
-func (t *Task) beginLife(life ownLife, epoch uint32) (*leases, error) {
+// beginLife begins a life that is let in after one that has ended, with a clock of its own.
+func (t *Task) beginLife(life ownLife, ended, epoch uint32) (*leases, error) {
 	t.coming = nil
 	oldest := t.config.Oldest
 	if oldest == 0 {
@@ -118,7 +134,7 @@ func (t *Task) beginLife(life ownLife, epoch uint32) (*leases, error) {
 		job: t.config.Job, task: t.config.Task, life: life.Life, epoch: epoch, clock: clock, local: t.config.local,
 		tickets: t.tickets, log: t.log,
 	}
-	if err := held.begin(life.Last); err != nil {
+	if err := held.begin(ended); err != nil {
 		return nil, err
 	}
 	t.mutex.Lock()
@@ -200,19 +216,24 @@ func (t *Task) endAll(ctx context.Context) error {
 	return err
 }
 
-// droppedLife is a life that has ended with a lease, and its key.
+// droppedLife is a life that has ended with a lease, its key, and until when by the
+// table's clock that lasts. Its notes are sent if the log has told that it has ended: an
+// audit knows them then.
 type droppedLife struct {
-	life uint32
-	key  string
+	life   uint32
+	key    string
+	until  uint64
+	isTold bool
 }
 
 // drop takes that a life ends whose bridge lease is to be freed by the notes of a life that
 // has ended.
 func (t *Task) drop(held *leases) {
-	key := t.lives.key(held.life)
+	bridge, _ := held.lease(hourstable.Bridge)
+	made := droppedLife{life: held.life, key: t.lives.key(held.life), until: bridge.Ends}
 	t.mutex.Lock()
 	defer t.mutex.Unlock()
-	t.dropped = append(t.dropped, droppedLife{held.life, key})
+	t.dropped = append(t.dropped, made)
 }
 
 func (t *Task) hasDropped() bool {
@@ -221,13 +242,18 @@ func (t *Task) hasDropped() bool {
 	return len(t.dropped) > 0
 }
 
-// freeDropped frees what lives may have that were dropped, once a later one is let in.
-func (t *Task) freeDropped() {
+// freeDropped frees what lives may have that were dropped, once a later one is let in,
+// before which the log tells that one has ended, 0 for none. The leases of a life of which
+// it does not tell that end by themselves.
+func (t *Task) freeDropped(ended uint32) {
 	t.mutex.Lock()
 	dropped := t.dropped
 	t.dropped = nil
 	t.mutex.Unlock()
 	for _, it := range dropped {
+		if !it.isTold && it.life != ended {
+			continue
+		}
 		for _, kind := range kinds {
 			if note, err := hourstable.EndedNote(t.config.Job, t.config.Task, it.life, kind); err == nil {
 				t.spawnFreeWith(note, it.key)

@@ -12,6 +12,8 @@ import (
 	"sync"
 	"testing"
 	"time"
+
+	"hourstable"
 )
 
 // keyed is a plane that gives keys to lives and notes what grants and notes show.
@@ -355,5 +357,76 @@ func TestTheNewestKeysAreKept(t *testing.T) {
 	}
 	if found := fmt.Sprint(own.newest(7)); found != "map[3:key-3 4:key-4 5:key-5 6:key-6]" {
 		t.Errorf("beside life 7 these are kept: %v", found)
+	}
+}
+
+// endedLives returns the lives that the log tells to have ended.
+func endedLives(t *testing.T, logs string) (made []float64) {
+	for _, call := range linesOf(t, logs) {
+		if call["do"] == "open" {
+			made = append(made, call["life"].(float64))
+		}
+	}
+	return made
+}
+
+// The answer to a call for a life may be lost. While the lease that the last life kept
+// lasts, no other one is let in: the log tells that this life has ended, and an audit
+// knows the notes that free it.
+func TestALeaseThatWasKeptIsFreedAfterALostLife(t *testing.T) {
+	plane, logs := keyedFor(t, 600_000), t.TempDir()
+	task := runs(t, TaskConfig{Control: []string{plane.URL}, Logs: logs})
+	eventually(t, "the task serves", func() bool { return task.serves("hello") })
+	plane.job.propose(`[["0",[1]],["5",[1]]]`)
+	eventually(t, "it has a bridge lease", func() bool {
+		made, err := tokenOf(task)
+		return err == nil && made == hourstable.TokenOf(7, 2, 1)
+	})
+	plane.mutex.Lock()
+	plane.lives++ // drawn, and the answer was lost
+	plane.mutex.Unlock()
+	task.cancel()
+	<-task.ended
+	plane.job.commit()
+	if found := endedLives(t, logs); len(found) != 2 || found[0] != 0 || found[1] != 1 {
+		t.Errorf("it tells that %v have ended", found)
+	}
+}
+
+func TestTheLifeThatHasEnded(t *testing.T) {
+	at := func(reading uint64) *uint64 { return &reading }
+	for name, it := range map[string]struct {
+		dropped []droppedLife
+		at      *uint64
+		wanted  uint32
+	}{
+		"none was dropped":   {nil, at(100), 4},
+		"its lease lasts":    {[]droppedLife{{life: 3, key: "key", until: 101}}, at(100), 3},
+		"it has ended":       {[]droppedLife{{life: 3, key: "key", until: 100}}, at(100), 4},
+		"no reading is told": {[]droppedLife{{life: 3, key: "key", until: 101}}, nil, 4},
+		"it has no key":      {[]droppedLife{{life: 3, until: 101}}, at(100), 4},
+	} {
+		task := &Task{dropped: it.dropped}
+		if found := task.endedBefore(ownLife{Life: 5, Last: 4}, it.at); found != it.wanted {
+			t.Errorf("%s: %d", name, found)
+		}
+	}
+}
+
+// An audit knows the notes of a life if the log tells that it has ended.
+func TestNotesThatNoLogSendsAreNotSent(t *testing.T) {
+	plane := newKeyed(t)
+	task := runs(t, TaskConfig{Control: []string{plane.URL}})
+	eventually(t, "the task serves", func() bool { return serves(task.Task) })
+	free := func(ended uint32) {
+		task.mutex.Lock()
+		task.dropped = []droppedLife{{life: 11, key: "key-11"}, {life: 12, key: "key-12", isTold: true}, {life: 13, key: "key-13"}}
+		task.mutex.Unlock()
+		task.freeDropped(ended)
+	}
+	free(13)
+	eventually(t, "the notes are sent", func() bool { return plane.noted("key-12") && plane.noted("key-13") })
+	if plane.noted("key-11") {
+		t.Error("a note was sent of a life of which no line tells that it has ended")
 	}
 }

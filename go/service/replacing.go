@@ -68,7 +68,7 @@ func (t *Task) replace(ctx context.Context, old *leases) (time.Duration, error) 
 		}
 	}
 	t.lives.heard(life.Life)
-	t.freeDropped()
+	t.freeDropped(0)
 	return t.hear(held, made)
 }
 
@@ -120,7 +120,7 @@ func (t *Task) startAfter(old *leases, life ownLife, epoch uint32) (*leases, err
 	t.mutex.Lock()
 	t.counts.Lives++
 	t.leases = held
-	t.dropped = append(t.dropped, droppedLife{old.life, t.lives.key(old.life)})
+	t.dropped = append(t.dropped, droppedLife{life: old.life, key: t.lives.key(old.life), isTold: true})
 	t.publish()
 	t.mutex.Unlock()
 	old.close()

@@ -99,6 +99,18 @@ class Renewed(NamedTuple):
     last: float | None
 
 
+class Dropped(NamedTuple):
+    """A life that has ended with leases: its key, and until when by the table's clock a lease lasts that it heard."""
+
+    life: int
+    key: str
+    until: int
+
+    def lasts(self, at: int | None) -> bool:
+        """Whether it may have a lease at a reading, so that up to then no plane let another process in."""
+        return bool(self.key) and at is not None and at < self.until
+
+
 class Handle:
     """What a task took on a key."""
 
@@ -267,7 +279,7 @@ class Task:
         self._leases: Leases | None = None
         self._next: Life | None = None  # a life that was drawn, and is not let in
         self._replacing: asyncio.Event | None = None  # while a slicelet is replaced: when that is done
-        self._dropped: list[tuple[int, str]] = []  # lives whose leases are to be freed, with their keys
+        self._dropped: list[Dropped] = []  # lives whose leases are to be freed
         self._freeing: list[asyncio.Task[None]] = []  # what frees those that were dropped last
         self._late: deque[tuple[int, replies.Granted]] = deque()  # lives, and answers that came after the first one
         self._phases = Phases(self._control)
@@ -590,10 +602,17 @@ class Task:
             return self._refused(life.life, told)
         if self._local_clock() - told.answer.sent >= self._policy_known().guard // 2:
             return 0.0  # it was stopped, and another life may be let in since
-        leases = self._leases = self._begin(life, told.epoch)
+        ended = self._ended_before(life, told.answer.reading)
+        leases = self._leases = self._begin(life, ended, told.epoch)
         self._lives.heard(life.life)
         self._free_dropped(leases)
         return self._hear(leases, told)
+
+    def _ended_before(self, life: Life, at: int | None) -> int:
+        """Returns the life that has ended before one that was let in at a reading. It is the one that was given out
+        before, whoever drew it, or lost the answer; but the one that was dropped if a lease of it lasted: then none
+        was let in since."""
+        return max((it.life for it in self._dropped if it.lasts(at)), default=life.last)
 
     async def _let_in(self, life: int) -> replies.Granted:
         """Returns the answer to a life that asks to be let in."""
@@ -606,15 +625,15 @@ class Task:
         assert self._policy is not None
         return self._policy
 
-    def _begin(self, life: Life, epoch: int) -> Leases:
-        """Begins a life that is let in, with a clock of its own."""
+    def _begin(self, life: Life, ended: int, epoch: int) -> Leases:
+        """Begins a life that is let in after one that has ended, with a clock of its own."""
         assert self._policy is not None and self._log is not None
         self._next, self._is_waiting = None, False
         oldest = self._policy.guard if self._oldest is None else self._oldest
         clock = TaskClock(self._drift.extra, self._drift.per, GRAIN, oldest)
         self.metrics.lives.inc()
         given = (clock, self._local_clock, self._tickets, self._log)
-        return Leases(self.job, self.task, life.life, life.last, *given, epoch)
+        return Leases(self.job, self.task, life.life, ended, *given, epoch)
 
     def _is_spent(self, leases: Leases, phase: Phase) -> bool:
         """Whether the slicelet is replaced now: few of its calls are left, a plane has just answered, and no key
@@ -651,7 +670,7 @@ class Task:
         leases = Leases(self.job, self.task, life.life, old.life, *given, epoch)
         self.metrics.lives.inc()
         self._leases = leases
-        self._dropped.append((old.life, self._lives.key_of(old.life)))
+        self._dropped.append(self._as_dropped(old))
         old.close()
         leases.start()
         return leases
@@ -701,25 +720,27 @@ class Task:
     def _drop_life(self) -> None:
         """Ends the life at once. What it may hold, also a lease that `held` lacks, is freed once the next one has
         begun, as the notes of a life that has ended."""
-        life = self._close_life()
-        if life:
-            self._dropped.append((life, self._lives.key_of(life)))
+        if self._leases is not None:
+            self._dropped.append(self._as_dropped(self._leases))
+        self._close_life()
 
-    def _close_life(self) -> int:
-        """Closes the slicelet: nothing is served from then on. Returns the life, 0 if there is none."""
+    def _as_dropped(self, leases: Leases) -> Dropped:
+        until = max((lease.until for lease in leases.held.values()), default=0)
+        return Dropped(leases.life, self._lives.key_of(leases.life), until)
+
+    def _close_life(self) -> None:
+        """Closes the slicelet: nothing is served from then on."""
         leases, self._leases = self._leases, None
         self._moves.moving = []
-        if leases is None:
-            return 0
-        self._notice()
-        leases.close()
-        return leases.life
+        if leases is not None:
+            self._notice()
+            leases.close()
 
     def _free_dropped(self, leases: Leases) -> None:
         """Frees what a life may have that was dropped, once the next one is let in. That has the notes of the life
-        alone that was given out before it: after an earlier one another process may have begun."""
+        alone of which its `open` tells that it has ended; the leases of another one end by themselves."""
         dropped, self._dropped = [it for it in self._dropped if it[0] == leases.last], []
-        notes = [(ended_note(self.job, self.task, life, kind), key) for life, key in dropped for kind in KINDS]
+        notes = [(ended_note(self.job, self.task, life, kind), key) for life, key, _ in dropped for kind in KINDS]
         self._freeing = [self._supervisor.spawn("free", self._free(*note)) for note in notes]
 
     async def _ask(self, leases: Leases) -> float:

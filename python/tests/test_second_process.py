@@ -3,7 +3,6 @@ wait for the leases of the one before."""
 
 import asyncio
 import os
-import shutil
 import signal
 import subprocess
 import sys
@@ -261,24 +260,40 @@ async def test_a_life_that_is_dropped_is_followed_at_once(file: Store, tmp_path:
             assert (await caller.get()).json["admitted"] == {"1": 2}
 
 
+@asynccontextmanager
+async def dropped_after_a_lost_life(file: Store, folder: Path, guard: int) -> AsyncIterator[tuple[Plane, Task]]:
+    """A task that has just dropped its life, after a call for another one whose answer is lost."""
+    async with running(file, folder / "logs") as (plane, caller):
+        assert (await caller.create({**LONG, "guard": guard, "bridge": guard})).status == 201
+        await caller.change(await caller.take(), 1, [[0, [1]]])
+        async with task_of(caller.url, folder) as task:
+            await until(lambda: bool(task.served()))
+            assert (await caller.post("tasks/1/life")).json["last"] == 1
+            task._drop_life()
+            task._phases.changed.set()
+            yield plane, task
+            await until(lambda: bool(task.served()))
+
+
+async def test_a_life_is_freed_although_the_next_one_was_lost(file: Store, tmp_path: Path) -> None:
+    """The lease of the dropped life lasts, so the lost one was not let in. The log tells that the dropped one has
+    ended, and an audit knows its notes."""
+    async with dropped_after_a_lost_life(file, tmp_path, 60_000) as (plane, _):
+        await until(lambda: {row.life for row in plane.jobs["shop"].job.rows()} == {3})
+    opened = [it["life"] for it in logs.merged(tmp_path / "logs/shop") if it["do"] == "open"]
+    assert opened == [0, 1]
+    assert audited(tmp_path / "logs/shop").startswith("audit one\n")
+
+
 async def test_no_note_is_sent_of_a_life_after_which_another_one_may_have_begun(
     file: Store, tmp_path: Path
 ) -> None:
-    """A process begins after the life that was given out before its own, and the notes that it sends are of that one.
-    Its leases of an earlier life end by themselves."""
-    async with owned(file, tmp_path, {**LONG, "guard": 20_000, "bridge": 20_000}) as (plane, caller):
-        async with task_of(caller.url, tmp_path) as task:
-            for drawn, left in ((1, {1, 3}), (0, {1, 4})):
-                await until(lambda: bool(task.served()))
-                for _ in range(drawn):
-                    await caller.post("tasks/1/life")  # by another process, or the answer was lost
-                task._drop_life()
-                task._phases.changed.set()
-                await until(lambda: bool(task.served()))
-                await until(lambda: {row.life for row in plane.jobs["shop"].job.rows()} == left)
-                await asyncio.sleep(0.3)
-                assert {row.life for row in plane.jobs["shop"].job.rows()} == left
-    shutil.copytree(tmp_path / "plane/shop", tmp_path / "logs/shop", dirs_exist_ok=True)
+    """Once the leases of the dropped life have ended, another process may have been let in with the lost one."""
+    async with dropped_after_a_lost_life(file, tmp_path, 3000):
+        time.sleep(3.1)  # neither the plane nor the task does anything meanwhile
+    calls = logs.merged(tmp_path / "logs/shop")
+    assert [it["life"] for it in calls if it["do"] == "open"] == [0, 2]
+    assert not [it for it in calls if it["do"] == "free" and it["note"]["life"] == 1]
     assert audited(tmp_path / "logs/shop").startswith("audit one\n")
 
 
