@@ -799,7 +799,7 @@ class Job:
         """Logs the last calls that are stored, if that was not done, and stores and logs the first line of this
         plane. Returns the new version."""
         assert self._log is not None
-        lacking = await asyncio.to_thread(self._log.lacking, row.lines)  # which reads a day or two of lines
+        lacking = await asyncio.to_thread(self._log.lacking, row.lines)  # which reads a file
         if lacking:
             self._log.append(*lacking)
         written = Row(row.ahead, [*self._log.gap(), line])

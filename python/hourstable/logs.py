@@ -18,7 +18,7 @@ import logging
 import os
 import re
 import time
-from collections.abc import Callable, Iterator, Mapping, Sequence
+from collections.abc import Callable, Collection, Iterator, Mapping, Sequence
 from contextlib import suppress
 from functools import lru_cache, partial
 from pathlib import Path
@@ -145,11 +145,19 @@ class Log:
 
     def lacking(self, lines: Sequence[str]) -> list[str]:
         """Returns those of the lines that are not in the two newest files. The lines are of calls that
-        were appended together, so if the first one is missing, all are. It reads the files, which may
-        take a while."""
-        files = self._files()[-2:]
-        found = {line for path in files for line in _lines_from(path, lines[0].encode())}
-        return [line for line in lines if line.encode() not in found]
+        were appended together, so if the first one is missing, all are. It reads from the end back to the
+        first one, or to a call before that: tickets of a log rise. Where they did not, a line that is there
+        may be returned, and an audit leaves the second one out."""
+        first, ticket = lines[0].encode(), gap_in(lines[0]).first
+        for path in reversed(self._files()[-2:]):
+            with open(path, "rb") as file:
+                place, is_over = _last_place(file.fileno(), first, ticket)
+                if place >= 0:
+                    there = _those_after(file.fileno(), place, {line.encode() for line in lines})
+                    return [line for line in lines if line.encode() not in there]
+            if is_over:
+                break
+        return list(lines)
 
     def last_reading(self) -> int:
         """Returns the greatest reading of the last calls of the log, 0 if none has one. It reads the newest files."""
@@ -322,21 +330,33 @@ def _mend(file: GrowingFile) -> None:
         file.append(b"\n")
 
 
-def _lines_from(path: Path, line: bytes) -> list[bytes]:
-    """Returns the last occurrence of a line in a file and all lines after it, none if the file does
-    not have it. It is read in pieces from its end, so that other threads run meanwhile."""
+def _last_place(file: int, line: bytes, ticket: int) -> tuple[int, bool]:
+    """Returns where a line stands last in a file, -1 if it does not, and whether a call of an earlier
+    ticket was met, before which nothing is read. It is read in pieces from its end, so that other
+    threads run meanwhile."""
     wanted, overlap = b"\n" + line + b"\n", b""
-    with open(path, "rb") as file:
-        end = os.fstat(file.fileno()).st_size
-        while end:
-            start = max(0, end - PIECE)
-            piece = os.pread(file.fileno(), end - start, start) + overlap
-            at = piece.rfind(wanted)
-            if at >= 0:
-                file.seek(start + at + 1)
-                return file.read().split(b"\n")
-            overlap, end = piece[: len(wanted)], start
-    return []
+    end = os.fstat(file).st_size
+    while end:
+        start = max(0, end - PIECE)
+        piece = os.pread(file, end - start, start) + overlap
+        at = piece.rfind(wanted)
+        if at >= 0:
+            return start + at + 1, True
+        call = TICKET.search(piece)
+        if call is not None and int(call[1] or call[2]) < ticket:
+            return -1, True
+        overlap, end = piece[: len(wanted)], start
+    return -1, False
+
+
+def _those_after(file: int, start: int, lines: Collection[bytes]) -> set[bytes]:
+    """Returns which of some lines stand in a file from the beginning of a line on."""
+    there, torn = set[bytes](), b""
+    while piece := os.pread(file, PIECE, start):
+        *whole, torn = (torn + piece).split(b"\n")
+        there.update(line for line in whole if line in lines)
+        start += len(piece)
+    return there
 
 
 def _last_calls(path: Path) -> list[dict[str, Any]]:

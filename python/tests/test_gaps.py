@@ -14,7 +14,7 @@ import needed
 needed.library()
 
 from hourstable import logs  # noqa: E402
-from hourstable.logs import Log, gap_line  # noqa: E402
+from hourstable.logs import PIECE, Log, gap_line  # noqa: E402
 from hourstable.segments import SEGMENT, SPARE, SpareLine  # noqa: E402
 from hourstable.system import System  # noqa: E402
 from lines import line_of  # noqa: E402
@@ -237,3 +237,32 @@ def test_lines_that_are_far_from_the_end_are_found(tmp_path: Path) -> None:
     at = line(30_000)
     assert log.lacking([at, line(60_003)]) == [line(60_003)]
     assert log.lacking([line(70_000)]) == [line(70_000)]
+
+
+def test_no_day_is_read_for_a_line(tmp_path: Path, monkeypatch: pytest.MonkeyPatch) -> None:
+    """A plane that takes a job over looks for lines in its log, which another one may have written. It reads the end
+    of its log, however many lines that has, and not the day before."""
+    day, read, pread = "2026-11-26", list[int](), os.pread
+    log = Log(tmp_path, "task-1", JOB, today=lambda: day, system=System())
+    for ticket in range(1, 160_001):
+        day = "2026-11-26" if ticket <= 80_000 else DAY
+        log.append(line(ticket))
+    sizes = [os.stat(path).st_size for path in logs.files_of(tmp_path)]
+    assert min(sizes) > 3 * PIECE
+
+    def counted(file: int, length: int, start: int) -> bytes:
+        made = pread(file, length, start)
+        read.append(len(made))
+        return made
+
+    monkeypatch.setattr(os, "pread", counted)
+    for wanted, lacking, most in (
+        ([line(160_000)], [], 2 * PIECE),
+        ([line(159_999), line(160_001)], [line(160_001)], 2 * PIECE),
+        ([line(160_001), line(160_002)], [line(160_001), line(160_002)], PIECE),
+        ([gap_line(2, 160_001, 160_002), line(160_003)], [gap_line(2, 160_001, 160_002), line(160_003)], PIECE),
+        ([line(79_999), line(80_000)], [], sizes[1] + 2 * PIECE),  # of the day before
+    ):
+        read.clear()
+        assert log.lacking(wanted) == lacking
+        assert 0 < sum(read) <= most
