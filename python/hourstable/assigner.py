@@ -35,6 +35,7 @@ class JobAssigner:
         self._planner = Planner(job, rules)
         self._sample = 0, local()  # a reading of the table, and the local reading then
         self._lease: library.Assigner | None = None
+        self._acts_as = number  # of the lease: another one with a term that was handed over
         self._first_seen: int | None = None  # when a task was alive first
         self._asked_commit = 0
         self._thought_of: object = None  # what the last thought was about
@@ -49,7 +50,8 @@ class JobAssigner:
             self.close()
             return 0.5
         if self._lease is None:
-            self._lease = library.Assigner(self.number, status["policy"]["job"])
+            self._act_as(self.number, status)
+        assert self._lease is not None
         phase = Phase(status["committed"], status["pending"] or 0)
         is_early = status["pending"] or status.get("grace", 0) > BEFORE
         plan = None if is_early else await self._plan(status)
@@ -57,7 +59,7 @@ class JobAssigner:
         if action == "take":
             return await self._take(status)
         if action == "renew":
-            return self._adopt(await self._renew(term), 0.05)
+            return self._adopt(status, await self._renew(term))
         if action == "commit":
             return await self._commit(status, term)
         if action == "propose" and plan is not None:
@@ -92,19 +94,26 @@ class JobAssigner:
         policy, since = status["policy"], status["since_commit"]
         return await asyncio.to_thread(self._planner.wanted, assignment, policy, tasks, reported, since)
 
+    def _act_as(self, number: int, status: dict[str, Any]) -> None:
+        """Begins with the lease of an assigner of a number."""
+        self.close()
+        self._lease, self._acts_as = library.Assigner(number, status["policy"]["job"]), number
+
     async def _take(self, status: dict[str, Any]) -> float:
-        """Takes the job lease; if its last term is of this assigner, renews it first, so that a
-        process that begins anew does not wait for its end."""
+        """Takes the job lease; if its last term is of this assigner, or was handed over to its plane, renews that
+        first, so that a process that begins anew does not wait for its end.
+
+        Only the plane that holds the row of a job does its calls: so no two assigners of planes act with one term."""
         kept = status["term"]
-        if kept and kept["assigner"] == self.number:
+        if kept and (kept["assigner"] == self.number or kept["number"] == status.get("own_term")):
             told = await self._renew(kept["number"])
             if told.refused is None:
-                return self._adopt(told, 0.05)
+                return self._adopt(status, told)
         told = await self._timed(self._desk.take(self.job, self.number))
         if told.refused == "job-held" and told.reading is not None:
             left = max(0, int(told.value["until"]) - told.reading) / 1000
             return min(max(left, 0.05), int(status["policy"]["job"]) / 2000)
-        return self._adopt(told, 0.05)
+        return self._adopt(status, told)
 
     async def _renew(self, term: int) -> Told:
         return await self._timed(self._desk.renew(self.job, term))
@@ -136,14 +145,16 @@ class JobAssigner:
         reading, at = self._sample
         return reading + self._local() - at
 
-    def _adopt(self, told: Told, after: float) -> float:
+    def _adopt(self, status: dict[str, Any], told: Told) -> float:
         if told.refused is None and self._lease is not None:
             term = JobTerm(**{name: told.value[name] for name in ("number", "assigner", "until")})
+            if term.assigner != self._acts_as:
+                self._act_as(term.assigner, status)
             try:
                 self._lease.adopt(term)
             except Refused as refusal:
                 log.info("%s: a term was not adopted: %s", self.job, refusal)
-        return self._after(told, "the job lease", after)
+        return self._after(told, "the job lease", 0.05)
 
     def _after(self, told: Told, what: str, after: float) -> float:
         if told.refused is None:

@@ -346,8 +346,8 @@ class Plane:
             await asyncio.wait(giving, timeout=self.limits.patience)
 
     async def _give(self, job: Job) -> None:
-        """Gives a job to another plane with its rows, after what is proposed is committed: the assigner of that one
-        waits until the term of this one's has ended."""
+        """Gives a job to another plane with its rows, after what is proposed is committed: where the rows do not
+        count, the assigner of that one waits until the term of this one's has ended."""
         end = self._now() + self.limits.patience / 2
         while job.view.proposed and self._now() < end:
             await job.changed(0.1)

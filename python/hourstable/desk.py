@@ -73,8 +73,9 @@ class LocalDesk:
         return sorted(self._plane.jobs)
 
     async def status(self, job: str) -> dict[str, Any]:
+        """Returns the status, and as `own_term` the term that is to be gone on with."""
         try:
-            return await self._plane.status(job)
+            return {**await self._plane.status(job), "own_term": self._plane.jobs[job].job.own_term}
         except FAILURES as error:
             raise Unreachable(str(error)) from error
 
@@ -105,9 +106,10 @@ class LocalDesk:
         if made.refusal is not None:
             return Told(made.refusal.carried, word_of(made.refusal.name), made.at)
         result: Any = made.result
-        is_term = isinstance(call, (Take, Renew))
-        value = term_of(result) if is_term else {"generation": result}
-        return Told(value, None, made.at)
+        if not isinstance(call, (Take, Renew)):
+            return Told({"generation": result}, None, made.at)
+        self._plane.jobs[job].job.own_term = result.number
+        return Told(term_of(result), None, made.at)
 
 
 class Reply(NamedTuple):

@@ -4,7 +4,8 @@ What is stored of a table has no rows, so a table that is restored accepts no co
 ended. A plane that ends tells more: earlier kept values of the table, and the calls that were accepted since. The
 plane that takes the job restores a table from these values and makes these calls again, by the library. All rows of
 before have ended if the readings are past the deadline of these values; the others come of the calls. So it is the
-very table, which the plane makes sure of by its kept values and its rows.
+very table, which the plane makes sure of by its kept values and its rows. The assigner of the plane that ends does
+no call from then on, and that of the other plane goes on with its term of the job lease.
 
 It counts for the version of the row of the store that it was told with, and else not: then the table is restored.
 """
@@ -103,7 +104,8 @@ class Trail:
 
 class Handed(NamedTuple):
     """A table with its rows, as a plane that ends tells it, and for which row of the store: its version and its
-    holder. `unknown` and `coming` are what that plane knows of leases that the table does not (`jobs.Held`)."""
+    holder. `unknown` and `coming` are what that plane knows of leases that the table does not (`jobs.Held`). `term`
+    is the last term of the job lease if the assigner of that plane has it, else 0."""
 
     version: int
     holder: str
@@ -113,6 +115,7 @@ class Handed(NamedTuple):
     grace: int
     unknown: Mapping[int, int]
     coming: Mapping[int, int]
+    term: int = 0
 
     def value(self) -> dict[str, Any]:
         """Returns the members of it, for JSON."""
@@ -120,7 +123,7 @@ class Handed(NamedTuple):
         return {
             "version": self.version, "holder": self.holder, "from": self.start.kept.decode(), "steps": steps,
             "kept": self.kept.decode(), "rows": self.rows, "grace": self.grace,
-            "unknown": list(self.unknown.items()), "coming": list(self.coming.items()),
+            "unknown": list(self.unknown.items()), "coming": list(self.coming.items()), "term": self.term,
         }
 
     @classmethod
@@ -136,7 +139,8 @@ class Handed(NamedTuple):
                 {int(task): int(until) for task, until in given[name]} for name in ("unknown", "coming")
             )
             version, holder, kept = int(given["version"]), str(given["holder"]), str(given["kept"]).encode()
-            return cls(version, holder, start, kept, rows, int(given["grace"]), unknown, coming)
+            term = int(given.get("term", 0))  # planes of the release before tell none
+            return cls(version, holder, start, kept, rows, int(given["grace"]), unknown, coming, term)
         except (LookupError, TypeError, ValueError):
             return None
 

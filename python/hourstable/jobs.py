@@ -279,6 +279,7 @@ class Job:
         self.members: dict[str, Any] = {}
         self.view = View(0, 0, None)
         self.term: dict[str, int] | None = None
+        self.own_term = 0  # the term of the job lease that the assigner of this plane has, or goes on with
         self.lives: dict[int, Life] = {}  # the greatest that were read
         self.since = self.last_commit = self.held_since = self._now()
         self.grace = 0  # the reading until which no commit is accepted
@@ -704,7 +705,8 @@ class Job:
         start, table = held.trail.told(), held.table
         if start is None:
             return None
-        known = self.grace, held.unknown, held.coming
+        term = self.own_term if self.term is not None and self.term["number"] == self.own_term else 0
+        known = self.grace, held.unknown, held.coming, term
         return Handed(held.version, held.holder, start, table.kept(), rows_of(table), *known)
 
     def keep(self) -> None:
@@ -761,7 +763,7 @@ class Job:
             table.close()
             raise
         self._seen.forget()
-        self.grace = handed.grace
+        self.grace, self.own_term = handed.grace, handed.term
         log.info("%s goes on with its %d rows", self.name, len(handed.rows))
         known, holder = (dict(handed.unknown), dict(handed.coming), Trail(handed.start)), self.settings.incarnation
         accepted = last_in(handed.kept)

@@ -1,5 +1,7 @@
 """What people and applications do."""
 
+from collections.abc import Callable
+
 from hourstable.desk import HttpDesk
 from hourstable.desk import Unreachable as NoPlane
 from hourstable.tickets import Tickets
@@ -8,7 +10,7 @@ from ..handlers import Direct
 from ..machine import Machine
 from ..roles import trespass
 from ..services import SECRET
-from ..world import Process
+from ..world import Host, Process
 from .base import Strike, kind
 
 
@@ -87,10 +89,16 @@ def strike_drain(strike: Strike) -> None:
     number = strike.rng.choice(job.tasks)
     service = strike.cluster.services[f"task{number}"]
     host = strike.any("client").host
-    process = Process(strike.world, "drainer", host)
     strike.tell(service.name)
+    drain(strike, job.name, number, host)
+    strike.lasts_for(strike.rng.uniform(1, strike.leases(3)), lambda: service.kill(0.2))
 
-    async def drain() -> None:
+
+def drain(strike: Strike, job: str, number: int, host: Host, done: Callable[[], object] = lambda: None) -> None:
+    """Drains a task from a host, and does something then, if a plane answered."""
+    process = Process(strike.world, "drainer", host)
+
+    async def ask() -> None:
         tickets = Tickets(255, None, system=Machine(process))
         whole = strike.cluster.scene.is_whole
         desk = HttpDesk(
@@ -98,14 +106,14 @@ def strike_drain(strike: Strike) -> None:
             system=Machine(process),
         )
         try:
-            await desk.drain(job.name, number)
+            await desk.drain(job, number)
+            done()
         except NoPlane:
             pass
         finally:
             await desk.close()
 
     def begin() -> None:
-        process.main = process.loop.create_task(drain())
+        process.main = process.loop.create_task(ask())
 
     strike.world.at(strike.world.now, begin, process)
-    strike.lasts_for(strike.rng.uniform(1, strike.leases(3)), lambda: service.kill(0.2))

@@ -1,13 +1,17 @@
 """Faults of processes and hosts."""
 
 import os
+from functools import partial
 
 from hourstable.versions import ROWS, ROWS_BEFORE
 
 from ..services import Service
 from ..world import MILLISECOND, SECOND, Host
 from .base import Strike, kind
+from .people import drain
 
+DRAINED = 2.0  # seconds after a plane that ends was told so, after which a task is drained
+MOVED = 5.0  # seconds after which that has no key: a third of what is left of a term of the job lease, or less
 LOOKED_FOR = 4.0  # seconds in which a process that was overtaken hears of it
 
 
@@ -78,12 +82,26 @@ def strike_failover(strike: Strike) -> None:
 
 @kind
 def strike_hand_over(strike: Strike) -> None:
-    """The plane that holds the job is asked to end, as by SIGTERM, while another one runs. It is started again."""
+    """The plane that holds the job is asked to end, as by SIGTERM, while another one runs. It is started again. At
+    times a task is drained just then, and asked to end soon after: it has no key any more, so nobody is denied."""
     service = strike.cluster.holder("shop")
-    process = service.process if service is not None else None
-    if service is not None and process is not None and process.on_signal is not None:
-        strike.tell(service.name)
-        strike.world.enter(process, process.on_signal)
+    if service is None or not _ask_to_end(strike, service):
+        return
+    strike.tell(service.name)
+    if strike.rng.random() < 0.5:
+        number, host = strike.rng.choice(strike.cluster.scene.jobs[0].tasks), strike.any("client").host
+        task = strike.cluster.services[f"task{number}"]
+        ended = partial(strike.lasts_for, MOVED, lambda: _ask_to_end(strike, task))
+        strike.world.after(DRAINED, lambda: drain(strike, "shop", number, host, ended))
+
+
+def _ask_to_end(strike: Strike, service: Service) -> bool:
+    """Asks a process to end, as by SIGTERM, if it runs. It is started again."""
+    process = service.process
+    if process is None or process.on_signal is None:
+        return False
+    strike.world.enter(process, process.on_signal)
+    return True
 
 
 @kind
