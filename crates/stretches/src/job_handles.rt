@@ -8,7 +8,7 @@ ghost use Rattle.job_calls.specs.declared.reply.ClusterReply.{ClusterReply};
 ghost use Rattle.cluster.specs.Pasts.{Past, event, history, is_accepted, task_calls};
 ghost use Rattle.cluster.specs.Clusters.{LeadsTo};
 ghost use Rattle.stretches.specs.Breaks.{AreBreaks, named};
-ghost use Rattle.stretches.specs.Tasks.{AreWatched, HasFewProcesses, IsGivenBy, names_of};
+ghost use Rattle.stretches.specs.Tasks.{AreWatched, Each, HasFewProcesses, IsGivenBy, names_of};
 
 use crate::breaks::TaskHandles;
 use cluster::{Cluster, place_of, told_law};
@@ -70,7 +70,8 @@ pub struct JobHandles {
 impl JobHandles {
     /// Returns the handles of each task before its first call: there are none.
     pub fn new(alloc: Global, job: Job) -> Result<Self, AllocError>
-        ensures { IfOk result (λ kept. AreWatched job [] kept) }
+        ensures none { IfOk result (λ kept. Each (λ task one. one.handles.items ≡ []) job.tasks kept.tasks.items) }
+        ensures breaks { IfOk result (λ kept. AreWatched job [] kept) }
     {
         let mut tasks = Vec::new(alloc);
         for _place in 0..job.tasks() {
