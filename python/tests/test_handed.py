@@ -2,6 +2,7 @@
 they were told with, and else they are restored."""
 
 import json
+import shutil
 import subprocess
 import sys
 from collections.abc import Callable
@@ -194,14 +195,15 @@ async def test_a_plane_that_ends_hands_the_rows_over(two: tuple[Side, Side], tmp
     assert proposed.status == 200
     held = await second.caller.post("commit", {"term": term})
     assert (held.status, held.json["refused"]) == (409, "held")
-    done = [(line["do"], line["file"].partition(".")[0]) for line in lines_of(tmp_path / "logs")]
-    assert ("phase", "control-2") in done and "restore" not in [do for do, _ in done]
-    assert "audit one" in audited(tmp_path / "logs" / JOB)
+    shutil.copytree(tmp_path / "logs", tmp_path / "before")
     for task in (1, 2):
         note = json.loads(ended_note(JOB, task, 1, "guard"))
         note["value"]["number"] = str(task)  # as of a slicelet that goes on
         assert (await second.caller.post("free", note)).status == 200
     assert (await second.caller.post("commit", {"term": term})).status == 200
+    done = [(line["do"], line["file"].partition(".")[0]) for line in lines_of(tmp_path / "logs")]
+    assert ("phase", "control-2") in done and "restore" not in [do for do, _ in done]
+    assert "audit one" in audited(tmp_path / "before" / JOB)  # no line sends the notes that were freed
 
 
 async def test_rows_are_handed_over_after_calls_that_the_table_did_not_accept(
