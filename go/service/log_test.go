@@ -467,7 +467,7 @@ func TestFilesAreOfTheirUserAlone(t *testing.T) {
 			return nil
 		})
 	}
-	if found != 7 { // two folders in each of two, and a file in each, and the lock
+	if found != 8 { // two folders in each of two, and a file in each, the lock, and the file of gaps
 		t.Errorf("%d files and folders", found)
 	}
 }
