@@ -60,9 +60,9 @@ class Chaos:
         return made if full is None else [*made, (3, partial(self.fill_disk, full))]
 
     def second_processes(self) -> list[Kind]:
-        """What happens in runs without a bug, or with one of which only second processes of tasks tell."""
+        """What happens in runs with second processes of tasks, or with a bug of which only these tell."""
         words = self.world.words
-        if words.bug not in (None, LET_IN_EARLY) or words.drift_beyond:
+        if not (words.second or words.bug == LET_IN_EARLY):
             return []
         return [(20 if words.bug else 5, self.seconds.begin_elsewhere), (1, self.seconds.begin_beside)]
 
