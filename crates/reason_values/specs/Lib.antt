@@ -6,3 +6,6 @@ pub mod Unsent
 pub mod Stretches
 pub mod Warnings
 pub mod Lines
+pub mod Heads
+pub mod Ends
+pub mod Faults
