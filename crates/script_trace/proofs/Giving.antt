@@ -1,5 +1,5 @@
 -- One more handle that a task gave.
-use Rattle.std.proofs.Common.{◌≡◌, ◌∙◌, ℕ, zero, suc, ◌+◌, ◌<◌, true, false, List, [], ◌∷◌, ◌++◌, length, map, refl, sym, ap, subst, inl, inr, arith}
+use Rattle.std.proofs.Common.{◌≡◌, ◌∙◌, ℕ, ◌+◌, ◌-◌, ◌<◌, ◌≤◌, true, false, List, [], ◌∷◌, ◌++◌, length, map, refl, sym, ap, subst, inl, inr, arith}
 use Rattle.std.specs.Prelude.{◌≢◌, ◌==◌, Option, Some, None, option_map, slice_get}
 use Rattle.std.proofs.lemmas.List.{length-map}
 use Rattle.std.proofs.lemmas.Bool.Decides.{nat_tests}
@@ -48,8 +48,10 @@ same_given past s r many names same are = actors_same (given_by past) (given_by 
 -- ONE HANDLE
 
 place_below : (task many : ℕ) → is_within task many ≡ true → (place : ℕ) × (place + 1 ≡ task) × (place < many)
-place_below zero many within = absurd (let f : false ≡ true = within in cc)
-place_below (suc place) many within = (place, omega arith, grind (arith, nat_tests, within))
+place_below task many within =
+    let low : 1 ≤ task = grind (arith, nat_tests) in
+    let high : task ≤ many = grind (arith, nat_tests) in
+    (task - 1, omega arith, omega arith)
 
 module _ (past : Past) (task : ℕ) (key : List ℕ) (at number : ℕ) (handle : KeyHandle) where
   abbrev given : GivenHandle

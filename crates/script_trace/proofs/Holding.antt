@@ -1,14 +1,15 @@
 -- Who gave the handle that a `hold` was answered with, and when.
-use Rattle.std.proofs.Common.{◌≡◌, ◌∙◌, ℕ, ◌≤◌, Bool, true, false, List, ◌∷◌, refl, sym, ap, subst, inl, inr, arith}
-use Rattle.std.specs.Prelude.{Option, Result, nat_lt, not, unwrap_or, if◌then◌else◌}
+use Rattle.std.proofs.Common.{◌≡◌, ◌∙◌, ℕ, ◌≤◌, Bool, true, false, List, [], ◌∷◌, refl, sym, ap, subst, inl, inr, arith}
+use Rattle.std.specs.Prelude.{◌||◌, Option, nat_lt, not, option_map, unwrap_or, if◌then◌else◌}
 use Rattle.std.proofs.lemmas.Bool.Decides.{nat_tests}
 use Rattle.machines.specs.Numbers.{is_within}
 use Rattle.machines.specs.Refusals.{first_of, when}
 use Rattle.slice_ranges.specs.Hash.{slice_key}
-use Rattle.lease_rule.specs.declared.answer.Ground.TheVariants.{ClockBack, Down, NoLease}
+use Rattle.lease_rule.specs.declared.answer.Ground.TheVariants.{ClockBack, Down, Ended, NoLease, NotOwned}
 use Rattle.lease_rule.specs.declared.answer.Verdict.{Verdict}
 use Rattle.lease_rule.specs.declared.answer.Verdict.TheVariants.{Allow, Deny}
-use Rattle.lease_rule.specs.Rule.{SeenHolding, is_allowed, rule}
+use Rattle.lease_rule.specs.declared.lease.Kind.TheVariants.{Guard, Bridge}
+use Rattle.lease_rule.specs.Rule.{SeenHolding, allowed_by, greatest, is_allowed, is_covered, live_generation, rule}
 use Rattle.key_handle.specs.declared.handle.KeyHandle.{KeyHandle}
 use Rattle.slicelet.specs.Continuity.{handle_on, held_by}
 use Rattle.slicelet.specs.Rules.{holding_after}
@@ -45,11 +46,18 @@ never_back true true cases is = refl
 never_back false true cases is = refl
 never_back up false cases is = absurd (let f : false ≡ true = is in cc)
 
+abbrev later_cases : SeenHolding → ℕ → List (Option Verdict)
+later_cases h at =
+    allowed_by Guard at h.guard ∷
+    allowed_by Bridge at h.bridge ∷
+    when (is_covered h.guard || is_covered h.bridge) (Deny Ended) ∷
+    option_map (λ generation. Deny (NotOwned generation)) (greatest (live_generation at h.guard) (live_generation at h.bridge)) ∷ []
+
 pub allowed_late : (h : SeenHolding) (at : ℕ) → is_allowed (rule h at) ≡ true → h.last ≤ at
 allowed_late h at allowed = by_test (nat_lt at h.last) refl
   where
     by_test : (back : Bool) → back ≡ nat_lt at h.last → h.last ≤ at
-    by_test true is = absurd (let f : true ≡ false = sym allowed ∙ never_back h.up (nat_lt at h.last) _ (sym is) in cc)
+    by_test true is = absurd (let f : true ≡ false = sym allowed ∙ never_back h.up (nat_lt at h.last) (later_cases h at) (sym is) in cc)
     by_test false is = grind (arith, nat_tests)
 
 -- a handle was given by a task of the job, at its last reading or later

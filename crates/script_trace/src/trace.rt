@@ -45,6 +45,6 @@ pub fn trace_of(
     Ok(ScriptTrace {
         lines,
         stretches,
-        handles: tracer.calls.handles,
+        handles: tracer.into_handles(),
     })
 }

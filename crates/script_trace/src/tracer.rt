@@ -227,6 +227,14 @@ impl ScriptTracer {
         &self.calls.handles
     }
 
+    /// Returns what [`handles`](Self::handles) returns, and ends the trace.
+    pub fn into_handles(self) -> JobHandles
+        ensures { (job : Job) (key : Option ℕ) (past : Past) → IsTracing job key past self → AreHandlesOf job past result }
+    {
+        let calls = self.calls;
+        calls.handles
+    }
+
     /// States that the steps that were played, with their replies, are a run.
     pub fn run_law(&self)
         ensures { (job : Job) (key : Option ℕ) (past : Past) → IsTracing job key past self.now → IsRun job past }

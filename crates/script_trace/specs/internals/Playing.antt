@@ -30,8 +30,8 @@ pub record IsPlaying (job : Job) (key : Option ℕ) (past : Past) (s : Step) (an
   pub calls : AreCallsKept job key past tracer.calls
 
 -- these steps were played, and there is a line for each
-pub record AreTraced (job : Job) (key : Option ℕ) (steps : List Step) (lines : List TraceLine) (tracer : ScriptTracer) : Type 0 where
+pub record AreTraced (job : Job) (key : Option ℕ) (steps : List Step) (told : List TraceLine) (tracer : ScriptTracer) : Type 0 where
   pub past : Past
   pub tracing : IsTracing job key past tracer
   pub played : steps_of past ≡ reverse steps
-  pub lines : AreLines job past (reverse lines)
+  pub lines : AreLines job past (reverse told)

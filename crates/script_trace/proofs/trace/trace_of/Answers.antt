@@ -41,5 +41,5 @@ returns c =
       played = so_far.played ∙ ap (λ (done : List Step). reverse done) all;
       lines = so_far.lines;
       stretches = c.in_ok-stretches.ensures c.args.job c.args.key so_far.past so_far.tracing;
-      handles = so_far.tracing.calls.handles;
+      handles = c.into_handles.ensures c.args.job c.args.key so_far.past so_far.tracing;
     }

@@ -8,7 +8,7 @@ use Rattle.script_trace.proofs.kept.KeptCalls.stretches.Goals as goal
 
 pub returns-in-Some : goal.returns-in-Some
 returns-in-Some c job past key are =
-    stretches_told job past key c.in-Some.kept.now c.in_ok-stretches.stretches.items
+    stretches_told job past key c.in-Some.kept c.in_ok-stretches.stretches.items
     (subst (λ (o : Option JobStretches). AreStretchesKept job (calls_in job past) key o) c.in-Some.is are)
     (λ k kept. c.in_ok-stretches.ensures job (calls_in job past) k kept)
 
