@@ -41,9 +41,8 @@ impl GivenTokens {
         self.tokens.contains(&token)
     }
 
-    // Takes the next event. Returns whether it is a write whose token was not given.
-    //
-    // The only error is out of memory; nothing has changed then.
+    // Takes the next event. Returns whether it is a write whose token was not given. The only error is
+    // out of memory.
     fn take(&mut self, event: WriteEvent) -> Result<bool, AllocError>
         ensures lacking { (events : List WriteEvent) (index : ℕ) → AreGiven events index self.old → slice_get events index ≡ Some event
             → IfOk result (IsLacking events index event) }

@@ -46,10 +46,15 @@ fn first_of(not_given: Option<usize>, overtaken: Option<Late>) -> Option<RuledOu
     }
 }
 
-/// Finds the first write that the law rules out. Events are in the order of their tickets.
+/// Finds the first write that the law of fencing tokens rules out. Events are in the order of their
+/// tickets, and an index counts them from 0.
 ///
-/// A write with a token that was not given is told so, even if it was overtaken too. The only error is
-/// out of memory.
+/// The law is `owners_law` of `job_fence`: a task writes with a token that it was given for the key,
+/// and the tokens of the writes of a key that a store took never fall. A request of a log has no epoch,
+/// so a token is looked for by its generation and its life; two tokens are compared with their epochs.
+///
+/// A write with a token that was not given is told so, even if it was overtaken too. If several
+/// overtook it, one of them is told. The only error is out of memory.
 pub fn first_ruled_out(alloc: Global, events: &[WriteEvent]) -> Result<Option<RuledOut>, AllocError>
     ensures { IfOk result (λ found. MatchOption found (NoneBefore events.now (length events.now)) (IsFirstRuledOut events.now)) }
 {

@@ -40,7 +40,7 @@ impl Shelves {
 
     /// Takes the next write. Returns one of its key before it with a greater token, if there is one.
     ///
-    /// The only error is out of memory; the shelves are then unchanged.
+    /// The only error is out of memory.
     pub fn take(&mut self, write: Taken) -> Result<Option<Taken>, AllocError>
         ensures greater { (before : List Taken) → AreGreatest before self.old → IfOk result (IsGreaterBefore before write) }
         ensures kept { (before : List Taken) → AreGreatest before self.old → OnOk result (AreGreatest (before ++ write ∷ []) self.new) }
