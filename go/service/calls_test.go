@@ -249,12 +249,7 @@ func TestABusyPlaneIsLeftAloneWhenThePhaseChanges(t *testing.T) {
 	time.Sleep(50 * time.Millisecond)
 	job.propose(halfOfTheKeys)
 	eventually(t, "the task asks twice more", func() bool { return len(plane.times("grant")) >= before+3 })
-	times := plane.times("grant")[before:]
-	for at := range times[1:] {
-		if apart := times[at+1].Sub(times[at]); apart < 990*time.Millisecond {
-			t.Errorf("it was asked again after %v", apart)
-		}
-	}
+	areApart(t, plane.times("grant")[before:])
 }
 
 func TestSendWaitsForAnOwner(t *testing.T) {

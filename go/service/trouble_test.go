@@ -154,7 +154,12 @@ func TestABusyPlaneIsLeftAlone(t *testing.T) {
 	before := len(plane.times("grant"))
 	plane.fail(always(wrongAnswers["429"]))
 	eventually(t, "the task asks three times", func() bool { return len(plane.times("grant")) >= before+3 })
-	times := plane.times("grant")[before:]
+	areApart(t, plane.times("grant")[before:])
+}
+
+// areApart wants a second between each two times at which a busy plane was asked.
+func areApart(t *testing.T, times []time.Time) {
+	t.Helper()
 	for at := range times[1:] {
 		if apart := times[at+1].Sub(times[at]); apart < 990*time.Millisecond {
 			t.Errorf("it was asked again after %v", apart)
