@@ -69,6 +69,9 @@ class Peer(asyncio.Transport):
     def get_extra_info(self, name: str, default: Any = None) -> Any:
         return default
 
+    def pause_reading(self) -> None:
+        """Does nothing: all of a body is there."""
+
 
 @lru_cache(4096)
 def _parts_of(url: str) -> tuple[tuple[str, int], str]:
