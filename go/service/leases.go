@@ -220,14 +220,7 @@ var errAllEnded = errors.New("no lease lasts")
 // giveUp gives up the lease of a kind, and returns the message of its note. errAllEnded:
 // then no call is made, and none is logged.
 func (l *leases) giveUp(kind hourstable.Kind) ([]byte, error) {
-	return l.releaseIf(kind, func(at uint64) bool {
-		for _, grant := range l.held {
-			if at < grant.Ends {
-				return true
-			}
-		}
-		return false
-	})
+	return l.releaseIf(kind, func(at uint64) bool { return at < l.lastEnd() })
 }
 
 // release gives up the lease of a kind, also once no lease lasts, and returns the message
@@ -345,9 +338,14 @@ func (l *leases) hasLease() bool {
 }
 
 // ends returns until when a lease is held.
-func (l *leases) ends() (last uint64) {
+func (l *leases) ends() uint64 {
 	l.mutex.RLock()
 	defer l.mutex.RUnlock()
+	return l.lastEnd()
+}
+
+// lastEnd is ends for who has the mutex.
+func (l *leases) lastEnd() (last uint64) {
 	for _, grant := range l.held {
 		if grant.Ends > last {
 			last = grant.Ends

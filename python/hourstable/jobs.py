@@ -738,7 +738,8 @@ class Job:
             await clock.wait()
             left = self._left_term(stored)
             version, line = await self._write_restore(stored, row, rights)
-            holder, self.own_term = self.settings.incarnation, left or self.own_term
+            holder = self.settings.incarnation
+            self.own_term = left or self.own_term
         elif rights.is_changed:  # the keys of lives follow from it
             version = await self._write((version, holder), stored.kept, None, rights)
             holder = self.settings.incarnation
