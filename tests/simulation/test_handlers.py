@@ -1,6 +1,7 @@
 """Requests that are brought to the handlers of a plane: their bodies may be as large as a plane reads."""
 
 import asyncio
+from asyncio import events
 from types import SimpleNamespace
 from typing import Any
 
@@ -25,5 +26,6 @@ async def lengths(sizes: list[int]) -> list[tuple[int, bytes]]:
 
 
 def test_bodies_are_read_whole() -> None:
+    events._set_running_loop(None)  # a world that ran before this leaves the loop of its last process
     sizes = [1, 1 << 16, 200_000, Limits().body]
     assert asyncio.run(lengths(sizes)) == [(200, str(size).encode()) for size in sizes]
