@@ -4,5 +4,4 @@ pub mod Requests
 pub mod Reasons
 pub mod Unsent
 pub mod Stretches
-pub mod Warnings
 pub mod Lines
