@@ -82,8 +82,12 @@ impl LogTracer {
         let call = &entry.line.call;
         let foreign = foreign_in(self.machines.cluster(), call);
         let untimely = self.greatest.untimely(call.reading());
-        let MadeCall { reply, reason } =
-            make_call(&mut self.machines, &mut self.places, index as u64, call)?;
+        let MadeCall { reply, reason } = make_call(
+            &mut self.machines,
+            &mut self.places,
+            index as u64,
+            call,
+        )?;
         self.greatest.read(call.reading());
         let is_told = is_worded(alloc, entry.line.reply.as_str(), &reply)?;
         let first_taking = taken_first(alloc, start, &entries[..index], call, &reply)?;
