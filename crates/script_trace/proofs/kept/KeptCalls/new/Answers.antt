@@ -1,0 +1,12 @@
+use Rattle.script_trace.proofs.Giving.{none_given}
+use Rattle.script_trace.proofs.kept.KeptCalls.new.Goals as goal
+
+pub returns : goal.returns
+returns c = record {
+  places = c.in_ok-places.ensures;
+  stretches = c.in_ok-stretches.ensures;
+  handles = record {
+    given = none_given c.args.job.tasks c.in_ok-handles.handles.tasks.items c.in_ok-handles.ensures.none;
+    breaks = c.in_ok-handles.ensures.breaks;
+  };
+}
