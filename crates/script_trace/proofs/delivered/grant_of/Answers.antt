@@ -5,8 +5,8 @@ use Rattle.cluster.specs.continued.Jobs.{from_start}
 use Rattle.script_trace.specs.declared.delivered.Delivered.TheVariants as delivered
 use Rattle.script_trace.proofs.delivered.grant_of.Goals as goal
 
-pub returns-in-Some : goal.returns-in-Some
-returns-in-Some c job calls leads =
+pub returns-in_ok-copied-in-Some : goal.returns-in_ok-copied-in-Some
+returns-in_ok-copied-in-Some c job calls leads =
     ap (λ (grant : Grant). Some (delivered.Grant grant)) c.in_ok-copied.ensures
     ∙ ap (λ (o : Option Grant). option_map delivered.Grant o) (c.in-Some.ensures (from_start job) calls leads)
 
