@@ -4,4 +4,4 @@ mod Keeping
 mod Leases
 pub mod Lists
 mod Serving
-mod Tasks
+pub mod Tasks

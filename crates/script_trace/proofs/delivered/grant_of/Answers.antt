@@ -7,7 +7,7 @@ use Rattle.script_trace.proofs.delivered.grant_of.Goals as goal
 
 pub returns-in_ok-copied-in-Some : goal.returns-in_ok-copied-in-Some
 returns-in_ok-copied-in-Some c job calls leads =
-    ap (λ (grant : Grant). Some (delivered.Grant grant)) c.in_ok-copied.ensures
+    ap (λ (grant : Grant). Some (delivered.Grant grant)) c.in_ok-copied-in-Some.ensures
     ∙ ap (λ (o : Option Grant). option_map delivered.Grant o) (c.in-Some.ensures (from_start job) calls leads)
 
 pub returns-in-None : goal.returns-in-None

@@ -3,9 +3,9 @@ use Rattle.std.specs.Prelude.{Option, Some, None}
 use Rattle.script_trace.specs.internals.Keeping.{AreStretchesKept}
 use Rattle.script_trace.proofs.kept.new_stretches.Goals as goal
 
-pub returns-in-Some : goal.returns-in-Some
-returns-in-Some c =
-    subst (λ (key : Option ℕ). AreStretchesKept c.args.job [] key (Some c.in_ok-stretches.stretches)) (sym c.in-Some.is) c.in_ok-stretches.ensures
+pub returns-in_ok-stretches-in-Some : goal.returns-in_ok-stretches-in-Some
+returns-in_ok-stretches-in-Some c =
+    subst (λ (key : Option ℕ). AreStretchesKept c.args.job [] key (Some c.in_ok-stretches-in-Some.stretches)) (sym c.in-Some.is) c.in_ok-stretches-in-Some.ensures
 
 pub returns-in-None : goal.returns-in-None
 returns-in-None c = subst (λ (key : Option ℕ). AreStretchesKept c.args.job [] key None) (sym c.in-None.is) tt

@@ -22,8 +22,8 @@ use Rattle.script_trace.proofs.Giving.{given_other, same_given}
 use Rattle.script_trace.proofs.Processes.{few_processes}
 use Rattle.script_trace.proofs.kept.KeptCalls.keep.Goals as goal
 
-pub returns-in-Some : goal.returns-in-Some
-returns-in-Some c job key past leads replied told number is kept =
+pub returns-in_ok-answer-in-Some : goal.returns-in_ok-answer-in-Some
+returns-in_ok-answer-in-Some c job key past leads replied told number is kept =
     let s = c.args.step.now in
     let r = c.args.reply.now in
     let calls = calls_in job past in
@@ -32,14 +32,14 @@ returns-in-Some c job key past leads replied told number is kept =
     let asks : Some call ≡ task_call_in o = sym c.in-Some.is ∙ is in
     let made = task_call_made o call asks in
     let next = calls_next r told o call made calls in
-    let answer : c.in_ok-answer.answer ≡ answered r = c.in_ok-answer.ensures in
-    let now : call_event call c.in_ok-answer.answer ∷ calls ≡ calls_in job (event s r ∷ past) =
+    let answer : c.in_ok-answer-in-Some.answer ≡ answered r = c.in_ok-answer-in-Some.ensures in
+    let now : call_event call c.in_ok-answer-in-Some.answer ∷ calls ≡ calls_in job (event s r ∷ past) =
         ap (λ (x : ClusterReply). call_event call x ∷ calls) answer ∙ sym next in
-    let led : LeadsTo job (call_event call c.in_ok-answer.answer ∷ calls) c.args.cluster.now
+    let led : LeadsTo job (call_event call c.in_ok-answer-in-Some.answer ∷ calls) c.args.cluster.now
     = subst (λ (p : Calls). LeadsTo job p c.args.cluster.now) (sym now) leads in
     let few = few_processes job past in
-    let places_are : record { place = c.args.number; event = call_event call c.in_ok-answer.answer } ∷ placed_in job past ≡ placed_in job (event s r ∷ past) =
-        ap (λ (n : ℕ). (let p : Placed = record { place = n; event = call_event call c.in_ok-answer.answer } in p ∷ placed_in job past)) number
+    let places_are : record { place = c.args.number; event = call_event call c.in_ok-answer-in-Some.answer } ∷ placed_in job past ≡ placed_in job (event s r ∷ past) =
+        ap (λ (n : ℕ). (let p : Placed = record { place = n; event = call_event call c.in_ok-answer-in-Some.answer } in p ∷ placed_in job past)) number
         ∙ ap (λ (x : ClusterReply). (let p : Placed = record { place = length past + 1; event = call_event call x } in p ∷ placed_in job past)) answer
         ∙ sym (placed_next r told o call made (length past + 1) (placed_in job past)) in
     let never = not_a_hold job past calls s call asks in

@@ -6,11 +6,11 @@ use Rattle.script_trace.specs.internals.Keeping.{AreStretchesKept}
 use Rattle.script_trace.proofs.Following.{no_stretches, stretches_told}
 use Rattle.script_trace.proofs.kept.KeptCalls.stretches.Goals as goal
 
-pub returns-in-Some : goal.returns-in-Some
-returns-in-Some c job past key are =
-    stretches_told job past key c.in-Some.kept c.in_ok-stretches.stretches.items
+pub returns-in_ok-stretches-in-Some : goal.returns-in_ok-stretches-in-Some
+returns-in_ok-stretches-in-Some c job past key are =
+    stretches_told job past key c.in-Some.kept c.in_ok-stretches-in-Some.stretches.items
     (subst (λ (o : Option JobStretches). AreStretchesKept job (calls_in job past) key o) c.in-Some.is are)
-    (λ k kept. c.in_ok-stretches.ensures job (calls_in job past) k kept)
+    (λ k kept. c.in_ok-stretches-in-Some.ensures job (calls_in job past) k kept)
 
 pub returns-in-None : goal.returns-in-None
 returns-in-None c job past key are =
