@@ -1,6 +1,6 @@
 -- What a trace ends with has no fractions.
-use Rattle.std.proofs.Common.{◌≡◌, ℕ, List, [], ◌∷◌, ◌++◌, Bool, true, false, ◌||◌, Option, Some, None, option_map, Ordering, Less, Equal, Greater, nat_cmp, nat_eq, map, Result, Ok, Err, IfOk, refl}
-use Rattle.std.specs.Prelude.{codes}
+use Rattle.std.proofs.Common.{◌≡◌, ℕ, List, [], ◌∷◌, ◌++◌, Bool, true, false, ◌||◌, ◌==◌, Option, Some, None, option_map, Ordering, Less, Equal, Greater, nat_cmp, nat_eq, map, Result, Ok, Err, IfOk, refl}
+use Rattle.std.specs.Prelude.{codes, if◌then◌else◌}
 use Rattle.std.proofs.lemmas.Bool.{or_parts}
 use Rattle.std.specs.Cmp.Lexicographic.{slice_cmp}
 use Rattle.std.specs.Ordering.{match_ordering}
@@ -29,7 +29,7 @@ use Rattle.trace_ends.specs.declared.untimely.PlacedReading.{PlacedReading}
 use Rattle.trace_ends.specs.declared.untimely.UntimelyReadings.{UntimelyReadings}
 use Rattle.job_calls.specs.Jobs.{Job}
 use Rattle.trace_ends.specs.Ends.{actor_data, begin_data, counts_data, double_data, double_members, drift_data, ended, fault_word, grants_data, hint_values, judged, listed, most_of, one_members, open_data, other_members, reading_data, sample_data, untimely_data, with_call, with_flag_if, with_list_if, with_number_if}
-use Rattle.trace_ends.specs.Heads.{begun, job_data, log_line_data, logs_members, redundancy_data, script_members, with_key, with_torn}
+use Rattle.trace_ends.specs.Heads.{begun, job_data, log_line_data, logs_members, script_members, with_key, with_torn}
 
 -- MEMBERS
 
@@ -48,11 +48,11 @@ put_whole name value no_members whole rest = both_whole (has_float value) false 
 put_whole name value (member other held members) whole rest =
     let parts = or_parts (has_float held) (members_have_float members) rest in
     chosen_whole (slice_cmp nat_cmp name other) (member name value (member other held members)) (member other value members)
-        (member other held (put name value members)) (both_whole (has_float value) _ whole rest) (both_whole (has_float value) _ whole parts.1)
-        (both_whole (has_float held) _ parts.0 (put_whole name value members whole parts.1))
+    (member other held (put name value members)) (both_whole (has_float value) _ whole rest) (both_whole (has_float value) _ whole parts.1)
+    (both_whole (has_float held) _ parts.0 (put_whole name value members whole parts.1))
 
 pub is_whole : Option Data → Type 0
-is_whole None = Unit
+is_whole None = Unit {0}
 is_whole (Some value) = has_float value ≡ false
 
 pub put_if_whole : (name : List ℕ) (value : Option Data) (members : Members) → is_whole value → members_have_float members ≡ false
@@ -65,11 +65,14 @@ put_if_whole name (Some value) members whole rest = put_whole name value members
 
 line_whole : (at : Option LogLine) (members : Members) → members_have_float members ≡ false → members_have_float (with_line at members) ≡ false
 line_whole None members rest = rest
-line_whole (Some at) members rest = put_whole (codes "log") (number_data at.log) _ refl (put_whole (codes "line") (number_data at.line) members refl rest)
+line_whole (Some at) members rest =
+    put_whole (codes "log") (number_data at.log) (put (codes "line") (number_data at.line) members) refl
+    (put_whole (codes "line") (number_data at.line) members refl rest)
 
 pub with_place_whole : (lines : List LogLine) (call : ℕ) (members : Members) → members_have_float members ≡ false
     → members_have_float (with_place lines call members) ≡ false
-with_place_whole lines call members rest = line_whole (with_number call lines) _ (put_whole (codes "call") (number_data call) members refl rest)
+with_place_whole lines call members rest =
+    line_whole (with_number call lines) (put (codes "call") (number_data call) members) (put_whole (codes "call") (number_data call) members refl rest)
 
 pub place_whole : (lines : List LogLine) (call : ℕ) → has_float (place_data lines call) ≡ false
 place_whole lines call = with_place_whole lines call no_members refl
@@ -82,7 +85,7 @@ with_call_whole lines None members rest = rest
 with_call_whole lines (Some call) members rest = with_place_whole lines call members rest
 
 reading_whole : (lines : List LogLine) (reading : PlacedReading) → has_float (reading_data lines reading) ≡ false
-reading_whole lines reading = with_call_whole lines reading.call _ refl
+reading_whole lines reading = with_call_whole lines reading.call (put (codes "at") (quoted_data reading.at) no_members) refl
 
 untimely_whole : (lines : List LogLine) (untimely : UntimelyReadings) → has_float (untimely_data lines untimely) ≡ false
 untimely_whole lines untimely =
@@ -101,12 +104,18 @@ most_whole (fault.Beyond most) = refl
 
 sample_whole : (lines : List LogLine) (wrong : WrongSample) → has_float (sample_data lines wrong) ≡ false
 sample_whole lines wrong =
-    put_if_whole (codes "most") _ _ (most_whole wrong.why)
-    (put_whole (codes "why") _ _ refl
-    (put_whole (codes "sent") _ _ refl
-    (put_whole (codes "reading") _ _ refl
-    (put_whole (codes "now") _ _ refl
-    (put_whole (codes "kept") _ _ refl (with_place_whole lines wrong.call no_members refl))))))
+    let placed = with_place lines wrong.call no_members in
+    let kept = put (codes "kept") (boolean false) placed in
+    let now = put (codes "now") (quoted_data wrong.now) kept in
+    let reading = put (codes "reading") (quoted_data wrong.reading) now in
+    let sent = put (codes "sent") (quoted_data wrong.sent) reading in
+    let why = put (codes "why") (string (fault_word wrong.why)) sent in
+    put_if_whole (codes "most") (option_map quoted_data (most_of wrong.why)) why (most_whole wrong.why)
+    (put_whole (codes "why") (string (fault_word wrong.why)) sent refl
+    (put_whole (codes "sent") (quoted_data wrong.sent) reading refl
+    (put_whole (codes "reading") (quoted_data wrong.reading) now refl
+    (put_whole (codes "now") (quoted_data wrong.now) kept refl
+    (put_whole (codes "kept") (boolean false) placed refl (with_place_whole lines wrong.call no_members refl))))))
 
 drift_whole : (lines : List LogLine) (found : DriftFound) → has_float (drift_data lines found) ≡ false
 drift_whole lines Kept = refl
@@ -124,7 +133,7 @@ counts_whole counts =
     rw (items_whole actor_data (λ taken. refl) counts.clerks.items, items_whole actor_data (λ taken. refl) counts.tasks.items) refl
 
 pub are_whole : List Data → Type 0
-are_whole [] = Unit
+are_whole [] = Unit {0}
 are_whole (value ∷ values) = (has_float value ≡ false) × are_whole values
 
 items_of_whole : (values : List Data) → are_whole values → items_have_float (items_of values) ≡ false
@@ -158,7 +167,12 @@ grants_whole None = tt
 grants_whole (Some hint) = (refl, tt)
 
 hints_whole : (lines : List LogLine) (hints : Hints) → are_whole (hint_values lines hints)
-hints_whole lines hints = appended_whole _ _ (open_whole lines hints.process) (appended_whole _ _ (begin_whole hints.begin) (grants_whole hints.grants))
+hints_whole lines hints =
+    let process = listed (option_map (open_data lines) hints.process) in
+    let begin = listed (option_map begin_data hints.begin) in
+    let grants = listed (option_map grants_data hints.grants) in
+    appended_whole process (begin ++ grants) (open_whole lines hints.process)
+    (appended_whole begin grants (begin_whole hints.begin) (grants_whole hints.grants))
 
 -- ENDS
 
@@ -178,29 +192,42 @@ flag_whole name true members rest = put_whole name (boolean true) members refl r
 flag_whole name false members rest = rest
 
 pub ended_whole : (lines : List LogLine) (calls : ℕ) (untimely : Option UntimelyReadings) → members_have_float (ended lines calls untimely) ≡ false
-ended_whole lines calls untimely = put_if_whole (codes "untimely") _ _ (untimely_if_whole lines untimely) refl
+ended_whole lines calls untimely =
+    put_if_whole (codes "untimely") (option_map (untimely_data lines) untimely) (put (codes "calls") (number_data calls) no_members)
+    (untimely_if_whole lines untimely) refl
 
 judged_whole : (verdict : List ℕ) (members : Members) → members_have_float members ≡ false → members_have_float (judged verdict members) ≡ false
 judged_whole verdict members rest = put_whole (codes "verdict") (string verdict) members refl rest
 
 pub one_whole : (lines : List LogLine) (calls : ℕ) (run : OneRun) → members_have_float (one_members lines calls run) ≡ false
 one_whole lines calls run =
-    flag_whole (codes "forgotten") run.forgotten _
-    (put_if_whole (codes "drift") _ _ (drift_if_whole lines run.drift)
-    (list_if_whole (codes "silent") _ _ (numbers_whole run.silent.items)
-    (number_put (nat_eq run.one_word 0) (codes "one_word") run.one_word _
-    (put_whole (codes "counts") _ _ (counts_whole run.counts) (judged_whole (codes "one") _ (ended_whole lines calls run.untimely))))))
+    let begun = ended lines calls run.untimely in
+    let verdict = judged (codes "one") begun in
+    let counts = put (codes "counts") (counts_data run.counts) verdict in
+    let words = with_number_if (codes "one_word") run.one_word counts in
+    let silent = with_list_if (codes "silent") (map number_data run.silent.items) words in
+    let drift = with_member_if (codes "drift") (option_map (drift_data lines) run.drift) silent in
+    flag_whole (codes "forgotten") run.forgotten drift
+    (put_if_whole (codes "drift") (option_map (drift_data lines) run.drift) silent (drift_if_whole lines run.drift)
+    (list_if_whole (codes "silent") (map number_data run.silent.items) words (numbers_whole run.silent.items)
+    (number_put (nat_eq run.one_word 0) (codes "one_word") run.one_word counts
+    (put_whole (codes "counts") (counts_data run.counts) verdict (counts_whole run.counts)
+    (judged_whole (codes "one") begun (ended_whole lines calls run.untimely))))))
 
 double_whole : (lines : List LogLine) (double : DoubleTicket) → has_float (double_data lines double) ≡ false
 double_whole lines double = rw (place_whole lines double.first, place_whole lines double.second) refl
 
 pub doubled_whole : (lines : List LogLine) (calls : ℕ) (double : DoubleTicket) → members_have_float (double_members lines calls double) ≡ false
 doubled_whole lines calls double =
-    put_whole (codes "double") _ _ (double_whole lines double) (judged_whole (codes "double") _ (ended_whole lines calls None))
+    let begun = ended lines calls None in
+    put_whole (codes "double") (double_data lines double) (judged (codes "double") begun) (double_whole lines double)
+    (judged_whole (codes "double") begun (ended_whole lines calls None))
 
 pub other_whole : (lines : List LogLine) (calls : ℕ) (hints : Hints) → members_have_float (other_members lines calls hints) ≡ false
 other_whole lines calls hints =
-    list_if_whole (codes "hints") _ _ (hints_whole lines hints) (judged_whole (codes "other") _ (ended_whole lines calls None))
+    let begun = ended lines calls None in
+    list_if_whole (codes "hints") (hint_values lines hints) (judged (codes "other") begun) (hints_whole lines hints)
+    (judged_whole (codes "other") begun (ended_whole lines calls None))
 
 -- HEADS
 
@@ -209,10 +236,11 @@ redundancy_chosen true low high = refl
 redundancy_chosen false low high = refl
 
 job_whole : (job : Job) → has_float (job_data job) ≡ false
-job_whole job = rw (redundancy_chosen (nat_eq job.policy.low job.policy.high) job.policy.low job.policy.high) refl
+job_whole job = rw (redundancy_chosen (job.policy.low == job.policy.high) job.policy.low job.policy.high) refl
 
 begun_whole : (of : List ℕ) (job : Job) → members_have_float (begun of job) ≡ false
-begun_whole of job = put_whole (codes "job") _ _ (job_whole job) refl
+begun_whole of job =
+    put_whole (codes "job") (job_data job) (put (codes "of") (string of) (put (codes "trace") (number_data 1) no_members)) (job_whole job) refl
 
 number_if_whole : (number : Option ℕ) → is_whole (option_map quoted_data number)
 unfolding is_whole
@@ -227,7 +255,8 @@ text_if_whole (Some text) = refl
 key_whole : (slice_key : Option ℕ) (key : Option (List ℕ)) (members : Members) → members_have_float members ≡ false
     → members_have_float (with_key slice_key key members) ≡ false
 key_whole slice_key key members rest =
-    put_if_whole (codes "slice_key") _ _ (number_if_whole slice_key) (put_if_whole (codes "key") _ _ (text_if_whole key) rest)
+    put_if_whole (codes "slice_key") (option_map quoted_data slice_key) (with_member_if (codes "key") (option_map string key) members)
+    (number_if_whole slice_key) (put_if_whole (codes "key") (option_map string key) members (text_if_whole key) rest)
 
 torn_whole : (torn : List LogLine) (members : Members) → members_have_float members ≡ false → members_have_float (with_torn torn members) ≡ false
 torn_whole [] members rest = rest
@@ -235,12 +264,15 @@ torn_whole (at ∷ more) members rest =
     put_whole (codes "torn") (list_data log_line_data (at ∷ more)) members (items_whole log_line_data (λ one. refl) (at ∷ more)) rest
 
 pub script_whole : (job : Job) (slice_key : Option ℕ) (key : Option (List ℕ)) → members_have_float (script_members job slice_key key) ≡ false
-script_whole job slice_key key = key_whole slice_key key _ (begun_whole (codes "script") job)
+script_whole job slice_key key = key_whole slice_key key (begun (codes "script") job) (begun_whole (codes "script") job)
 
 pub logs_whole : (job : Job) (names : List (List ℕ)) (torn : List LogLine) (slice_key : Option ℕ) (key : Option (List ℕ))
     → members_have_float (logs_members job names torn slice_key key) ≡ false
-logs_whole job names torn slice_key key = key_whole slice_key key _ (torn_whole torn _
-    (put_whole (codes "logs") _ _ (items_whole string (λ name. refl) names) (begun_whole (codes "logs") job)))
+logs_whole job names torn slice_key key =
+    let start = begun (codes "logs") job in
+    let named = put (codes "logs") (list_data string names) start in
+    key_whole slice_key key (with_torn torn named) (torn_whole torn named
+    (put_whole (codes "logs") (list_data string names) start (items_whole string (λ name. refl) names) (begun_whole (codes "logs") job)))
 
 -- LINES
 

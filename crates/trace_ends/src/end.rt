@@ -8,8 +8,8 @@ ghost use Rattle.reason_values.specs.Lines.{line_text};
 
 use crate::drift::{DriftFound, drift_json};
 use crate::hints::{Hints, hint_values};
-use crate::untimely::{UntimelyReadings, untimely_json};
 use crate::line::named_line;
+use crate::untimely::{UntimelyReadings, untimely_json};
 use reason_values::{LogLine, place_json, put_if, quoted};
 use serde_json::{Map, Value, json, put};
 use std::alloc::{AllocError, Global};
@@ -237,11 +237,7 @@ pub fn one_end(
     named_line(alloc, "end", members)
 }
 
-fn double_json(
-    alloc: Global,
-    lines: &[LogLine],
-    double: DoubleTicket,
-) -> Result<Value, AllocError>
+fn double_json(alloc: Global, lines: &[LogLine], double: DoubleTicket) -> Result<Value, AllocError>
     ensures { IfOk result (λ v. view v ≡ double_data lines.now double) }
 {
     let first = place_json(alloc, lines, double.first)?;
@@ -260,7 +256,12 @@ fn double_members(
 {
     let mut members = ended(alloc, lines, calls, &None)?;
     put_verdict(&mut members, alloc, "double")?;
-    put(&mut members, alloc, "double", double_json(alloc, lines, double)?)?;
+    put(
+        &mut members,
+        alloc,
+        "double",
+        double_json(alloc, lines, double)?,
+    )?;
     Ok(members)
 }
 
@@ -287,7 +288,12 @@ fn other_members(
 {
     let mut members = ended(alloc, lines, calls, &None)?;
     put_verdict(&mut members, alloc, "other")?;
-    put_list_if(&mut members, alloc, "hints", hint_values(alloc, lines, hints)?)?;
+    put_list_if(
+        &mut members,
+        alloc,
+        "hints",
+        hint_values(alloc, lines, hints)?,
+    )?;
     Ok(members)
 }
 

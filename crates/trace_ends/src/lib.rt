@@ -13,8 +13,13 @@ mod line;
 mod untimely;
 
 pub use drift::{DriftFound, SampleFault, WrongSample};
-pub use end::{ActorCalls, Counts, DoubleTicket, OneRun, double_end, one_end, other_end, script_end};
+pub use end::{
+    ActorCalls, Counts, DoubleTicket, OneRun, double_end, one_end, other_end, script_end,
+};
 pub use fault::fault_line;
 pub use head::{TRACE_VERSION, logs_head, script_head};
 pub use hints::{GrantsHint, Hints, OpenHint};
 pub use untimely::{PlacedReading, UntimelyReadings};
+
+#[cfg(test)]
+mod tests;
