@@ -10,9 +10,16 @@ import (
 )
 
 // giveUp gives up the lease of a kind, and frees it at the table. Before that, what
-// the task loses by it is told, and answers that run on these keys end.
+// the task loses by it is told, and answers that run on these keys end. A life none of
+// whose leases lasts then, as after the process stood still, is dropped.
 func (t *Task) giveUp(ctx context.Context, held *leases, kind hourstable.Kind, isLast bool) error {
 	note, err := t.release(held, kind, isLast)
+	if errors.Is(err, errAllEnded) {
+		t.drop(held)
+		t.forget(held)
+		t.notice()
+		return nil
+	}
 	if err != nil {
 		return err
 	}
@@ -31,7 +38,7 @@ func (t *Task) release(held *leases, kind hourstable.Kind, isLast bool) (note []
 	if len(lost) > 0 {
 		t.leaveKeys(lost, grant.Ends)
 	}
-	return held.release(kind)
+	return held.giveUp(kind)
 }
 
 func (t *Task) move(lost []hourstable.Range) {

@@ -213,10 +213,35 @@ func (l *leases) behind(err error, isCalled bool) error {
 	return err
 }
 
-// release gives up the lease of a kind, and returns the message of its note.
-func (l *leases) release(kind hourstable.Kind) (note []byte, err error) {
+// errAllEnded is returned where no lease of a life lasts, so that another process of the
+// task may have been let in, which logs its own calls.
+var errAllEnded = errors.New("no lease lasts")
+
+// giveUp gives up the lease of a kind, and returns the message of its note. errAllEnded:
+// then no call is made, and none is logged.
+func (l *leases) giveUp(kind hourstable.Kind) ([]byte, error) {
+	return l.releaseIf(kind, func(at uint64) bool {
+		for _, grant := range l.held {
+			if at < grant.Ends {
+				return true
+			}
+		}
+		return false
+	})
+}
+
+// release gives up the lease of a kind, also once no lease lasts, and returns the message
+// of its note.
+func (l *leases) release(kind hourstable.Kind) ([]byte, error) {
+	return l.releaseIf(kind, func(uint64) bool { return true })
+}
+
+func (l *leases) releaseIf(kind hourstable.Kind, lasts func(at uint64) bool) (note []byte, err error) {
 	call := hourstable.LoggedCall{Call: hourstable.CallRelease, Kind: kind}
 	err = l.call(call, func(at uint64) ([]byte, error) {
+		if !lasts(at) {
+			return nil, errAllEnded
+		}
 		if note, err = l.slicelet.Release(kind, at); err != nil {
 			return nil, err
 		}
@@ -317,6 +342,18 @@ func (l *leases) hasLease() bool {
 	l.mutex.RLock()
 	defer l.mutex.RUnlock()
 	return len(l.held) > 0
+}
+
+// ends returns until when a lease is held.
+func (l *leases) ends() (last uint64) {
+	l.mutex.RLock()
+	defer l.mutex.RUnlock()
+	for _, grant := range l.held {
+		if grant.Ends > last {
+			last = grant.Ends
+		}
+	}
+	return last
 }
 
 // live returns the slice keys of the leases that have not ended at a reading.

@@ -201,6 +201,41 @@ func TestALifeWithNoLeaseLogsNoQuestion(t *testing.T) {
 	}
 }
 
+// A process that stands still while it gives up a lease may go on after the lease has ended, and another process was let
+// in, which logs its own calls.
+func TestALeaseIsGivenUpWhileOneLasts(t *testing.T) {
+	within, cancel := context.WithTimeout(context.Background(), 5*time.Second)
+	defer cancel()
+	for name, giveUp := range map[string]func(*Task) error{
+		"keys move":         func(task *Task) error { return task.giveUp(within, task.leases, hourstable.Guard, false) },
+		"a life ends":       func(task *Task) error { return task.endLife(within) },
+		"a life is dropped": func(task *Task) error { task.tellLost(nil, 0); return task.dropLife() },
+	} {
+		for _, isLate := range []bool{false, true} {
+			clock, logs := &shifted{}, t.TempDir()
+			task := lone(t, TaskConfig{
+				Control: []string{"http://127.0.0.1:1"}, Job: "shop", Task: 1, Logs: logs, local: clock.read,
+				OnLose: func(context.Context, []hourstable.Range, uint64) {
+					if isLate {
+						clock.passed.Store(1 << 21)
+					}
+				},
+			}, 1<<20)
+			before := len(linesOf(t, logs))
+			if err := giveUp(task); err != nil && (isLate || !errors.Is(err, context.DeadlineExceeded)) {
+				t.Errorf("%s: %v", name, err) // no plane takes the note of a lease that lasts
+			}
+			lines, hasLife := linesOf(t, logs)[before:], task.life() != nil
+			if isLate && (len(lines) > 0 || hasLife || len(task.dropped) != 1 || task.dropped[0].until != 1<<20) {
+				t.Errorf("%s: it logs %v, and has dropped %v", name, lines, task.dropped)
+			}
+			if !isLate && (len(lines) == 0 || lines[len(lines)-1]["reply"] != "released life 1 number 1" || hasLife != (name == "keys move")) {
+				t.Errorf("%s: it logs %v", name, lines)
+			}
+		}
+	}
+}
+
 func TestAnAnswerPastTheEndOfItsLease(t *testing.T) {
 	clock := &shifted{}
 	config := TaskConfig{Control: []string{"http://127.0.0.1:1"}, Job: "shop", Task: 1, local: clock.read}

@@ -192,6 +192,9 @@ func (t *Task) endLife(ctx context.Context) error {
 				failed = err
 			}
 		}
+		if t.life() != held {
+			return failed
+		}
 	}
 	if bridge, isHeld := held.lease(hourstable.Bridge); isHeld {
 		t.move(bridge.Ranges)
@@ -226,11 +229,10 @@ type droppedLife struct {
 	isTold bool
 }
 
-// drop takes that a life ends whose bridge lease is to be freed by the notes of a life that
-// has ended.
+// drop takes that a life ends whose leases are to be freed by the notes of a life that has
+// ended.
 func (t *Task) drop(held *leases) {
-	bridge, _ := held.lease(hourstable.Bridge)
-	made := droppedLife{life: held.life, key: t.lives.key(held.life), until: bridge.Ends}
+	made := droppedLife{life: held.life, key: t.lives.key(held.life), until: held.ends()}
 	t.mutex.Lock()
 	defer t.mutex.Unlock()
 	t.dropped = append(t.dropped, made)
@@ -271,12 +273,14 @@ func (t *Task) dropLife() error {
 	}
 	defer t.notice()
 	defer t.forget(held)
+	isFreed := false
 	for _, kind := range held.toGiveUp() {
-		if note, err := held.release(kind); err == nil {
+		if note, err := held.giveUp(kind); err == nil {
 			t.spawnFree(note, held.life)
+			isFreed = true
 		}
 	}
-	if _, isHeld := held.lease(hourstable.Bridge); isHeld {
+	if !isFreed || held.hasLease() {
 		t.drop(held)
 	}
 	return nil

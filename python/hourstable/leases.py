@@ -34,6 +34,10 @@ class NoToken(Exception):
     control plane that let the life in is of a version up to 1.0."""
 
 
+class AllEnded(Exception):
+    """No lease of a life lasts, so another process of the task may have been let in, which logs its own calls."""
+
+
 class Held(NamedTuple):
     """The lease of a grant: its keys, and its end by the task's clock."""
 
@@ -150,10 +154,23 @@ class Leases:
             self.heard = {name: max(greatest, getattr(lease, name)) for name, greatest in self.heard.items()}
         return heard is not None
 
+    def give_up(self, kind: str) -> bytes:
+        """Gives up the lease of a kind, and returns the message of its note. Raises AllEnded: then no call is made,
+        and none is logged."""
+
+        def ask(at: int) -> bytes:
+            if not self._has_lease():
+                raise AllEnded
+            return self._slicelet.release(kind, at)
+
+        return self._release(kind, ask)
+
     def release(self, kind: str) -> bytes:
-        """Gives up the lease of a kind, and returns the message of its note."""
-        call = partial(self._slicelet.release, kind)
-        note = self._call("release", call, kind=NUMBERS[kind])
+        """Gives up the lease of a kind, also once no lease lasts, and returns the message of its note."""
+        return self._release(kind, partial(self._slicelet.release, kind))
+
+    def _release(self, kind: str, ask: Callable[[int], bytes]) -> bytes:
+        note = self._call("release", ask, kind=NUMBERS[kind])
         self.held.pop(kind, None)
         return note
 

@@ -30,7 +30,7 @@ from .calls import TIMEOUT, UNREADABLE, Control, Keyed, Rejected, Troubles, Unre
 from .clock import local_clock as local_clock_of
 from .context import about
 from .kept_log import KeptLog
-from .leases import KINDS, ClockBehind, Entered, Leases, NoToken, policy_of
+from .leases import KINDS, AllEnded, ClockBehind, Entered, Leases, NoToken, policy_of
 from .library import Phase, Policy, Refused, TaskClock, ended_note, slice_key
 from .logs import TASKS, LogFiles, NoLog, folder_of, job_line
 from .moves import Moves, OnGain, OnLose
@@ -683,6 +683,8 @@ class Task:
         for kind in reversed(KINDS) if leases.may_give_up("bridge") else ("guard",):
             if kind in leases.held:
                 await self._give_up(leases, kind, is_last=True)
+            if self._leases is not leases:
+                return
         if leases.held:
             await self._leave_life()
             return
@@ -853,7 +855,7 @@ class Task:
         return max(0.001, min(self._renew_at, held.until) - at) / 1000
 
     async def _give_up(self, leases: Leases, kind: str, is_last: bool = False) -> None:
-        """Gives up the lease of a kind, and frees it at the table.
+        """Gives up the lease of a kind, and frees it at the table. A life none of whose leases lasts is dropped.
 
         Before that, what the task loses by it is told, and open blocks on these keys end.
         """
@@ -862,17 +864,28 @@ class Task:
             self._moves.moving = lost
             try:
                 await self._leave(leases, lost, leases.held[kind].until)
-                note = leases.release(kind)
+                note = self._released(leases, kind)
             finally:
                 self._served = minus(self._served, lost)
                 self._moves.moving = []
         else:
-            note = leases.release(kind)
+            note = self._released(leases, kind)
+        if note is None:
+            self._drop_life()
+            return
         freeing = self._free(note, self._lives.key_of(leases.life))
         if is_last:
             await freeing
         else:
             self._supervisor.spawn("free", freeing)
+
+    def _released(self, leases: Leases, kind: str) -> bytes | None:
+        """Gives up the lease of a kind, and returns the message of its note, or None if no lease lasts any more, as
+        after the process stood still."""
+        try:
+            return leases.give_up(kind)
+        except AllEnded:
+            return None
 
     async def _leave(self, leases: Leases, lost: Ranges, deadline: int) -> None:
         """Tells that keys are given up, and waits until no block is open on them, but not until the lease has ended:

@@ -17,7 +17,7 @@ needed.library()
 
 from hourstable.calls import READING, Answer, Control  # noqa: E402
 from hourstable.kept_log import KeptLog  # noqa: E402
-from hourstable.leases import Leases, held_in, policy_of  # noqa: E402
+from hourstable.leases import AllEnded, Leases, held_in, policy_of  # noqa: E402
 from hourstable.library import Policy, Table, TaskClock  # noqa: E402
 from hourstable.logs import LogFiles, job_line  # noqa: E402
 from hourstable.ranges import KEYS  # noqa: E402
@@ -101,6 +101,26 @@ def test_a_reading_of_a_task_is_not_older_than_its_ticket(tmp_path: Path) -> Non
     assert [line["do"] for line in calls] == ["start", "hear", "hold", "check", "release"]
     for line in calls:
         assert line["at"] >= tickets.drawn.get(line["ticket"], 0) + STOP, line
+
+
+@pytest.mark.parametrize("late", [-10, 0, 10])
+def test_a_lease_is_given_up_while_one_lasts(late: int, tmp_path: Path) -> None:
+    """Once none does, another process of the task may have been let in, which logs its own calls."""
+    tickets = Stopped()
+    leases = started(tmp_path, tickets)
+    grant, policy = granted(1, tickets.clock)
+    assert leases.hear(grant, held_in(JOB, grant), policy)
+    ends = leases.held["guard"].until
+    tickets.clock = ends - 2 * STOP
+    leases.sample(tickets.clock, tickets.clock)
+    tickets.clock = ends - STOP + late  # it is stopped between its ticket and its reading
+    if late < 0:
+        assert json.loads(leases.give_up("guard"))["type"] == "note"
+    else:
+        with pytest.raises(AllEnded):
+            leases.give_up("guard")
+    assert ("guard" in leases.held) == (late >= 0)
+    assert ("release" in [line["do"] for line in lines_of(tmp_path)]) == (late < 0)
 
 
 class Ways:

@@ -22,10 +22,11 @@ from hourstable import logs  # noqa: E402
 from hourstable.control import Plane  # noqa: E402
 from hourstable.store import Store  # noqa: E402
 from hourstable.task import Denied, Lease, LeaseLost, Overtaken, Task  # noqa: E402
-from serving import POLICY, Caller, running  # noqa: E402
+from serving import HALF, POLICY, Caller, assignment, running  # noqa: E402
 from test_handed import audited  # noqa: E402
 from waits import until  # noqa: E402
 
+LATER = 60_000  # ticks that a clock goes on without an answer, also past the end of a lease
 LONG: dict[str, Any] = {**POLICY, "guard": 3000, "bridge": 3000}
 SCRIPT = """
 import asyncio, sys
@@ -95,8 +96,8 @@ def unit_of(tmp_path: Path) -> Iterator[Callable[[str, str], Unit]]:
         one.end()
 
 
-def task_of(url: str, folder: Path) -> Task:
-    return Task(url, "shop", 1, logs=folder / "logs", timeout=1.0)
+def task_of(url: str, folder: Path, oldest: int | None = None) -> Task:
+    return Task(url, "shop", 1, logs=folder / "logs", timeout=1.0, oldest=oldest)
 
 
 def is_continuous(lease: Lease) -> bool:
@@ -171,6 +172,58 @@ async def test_a_process_that_was_frozen_ends_once_another_one_is_let_in(
         assert second.said[-1] == "serves"
 
 
+async def test_what_has_ended_is_not_given_up(
+    file: Store, tmp_path: Path, monkeypatch: pytest.MonkeyPatch
+) -> None:
+    """A process stands still while it gives up its leases, until another one is let in: the log of that one tells what
+    the task does from then on."""
+    async with owned(file, tmp_path, POLICY) as (_, caller):
+        first, notes = task_of(caller.url, tmp_path / "a", LATER), list[bytes]()
+        await first.start()
+        await until(lambda: bool(first.served()))
+        async with task_of(caller.url, tmp_path / "b") as second:
+            await until(lambda: second.state == "waiting")
+
+            async def stand_still(*_: object) -> None:
+                await until(lambda: may_serve(second))
+
+            async def free(note: bytes, _: str) -> None:
+                notes.append(note)
+
+            monkeypatch.setattr(first, "_leave", stand_still)
+            monkeypatch.setattr(first, "_free", free)
+            await first.stop()
+            assert may_serve(second) and not may_serve(first) and first.state == "stopped"
+    assert not notes
+    assert [it["do"] for it in logs.merged(tmp_path / "a/logs/shop") if it["do"] == "release"] == []
+    for path in (tmp_path / "a/logs/shop").glob("task-1.*"):
+        path.rename(tmp_path / "b/logs/shop" / path.name.replace("task-1", "task-1-elsewhere"))
+    for path in (tmp_path / "plane/shop").glob("control-*"):
+        path.rename(tmp_path / "b/logs/shop" / path.name)
+    assert audited(tmp_path / "b/logs/shop").startswith("audit one\n")
+
+
+async def test_a_life_that_gives_up_too_late_is_followed(
+    file: Store, tmp_path: Path, monkeypatch: pytest.MonkeyPatch
+) -> None:
+    """A process stands still while it gives up keys that move, until its lease has ended: its next life goes on."""
+    async with owned(file, tmp_path, POLICY) as (_, caller):
+        async with task_of(caller.url, tmp_path, LATER) as task:
+            await until(lambda: bool(task.served()))
+            leases = task._leases
+
+            async def stand_still(*_: object) -> None:
+                await asyncio.sleep(1.2 * POLICY["guard"] / 1000)
+
+            monkeypatch.setattr(task, "_leave", stand_still)
+            term = (await caller.get()).json["term"]["number"]
+            assert (await caller.post(f"propose?term={term}", assignment(2, [[0, [2]], [HALF, [1]]]))).status == 200
+            await until(lambda: task._leases not in (leases, None))
+            monkeypatch.undo()
+            await until(lambda: bool(task.served()))
+            assert "release" not in [it["do"] for it in logs.merged(tmp_path / "logs/shop")]
+
+
 async def test_the_lock_outlasts_what_it_serves_by(
     file: Store, tmp_path: Path, monkeypatch: pytest.MonkeyPatch
 ) -> None:
@@ -213,7 +266,7 @@ async def test_the_lock_outlasts_a_lease_that_cannot_be_released(
             serves.append(may_serve(task))
             freed()
 
-        monkeypatch.setattr(task._leases, "release", release)
+        monkeypatch.setattr(task._leases, "give_up", release)
         monkeypatch.setattr(task._lives, "close", close)
         await task.stop()
         assert serves == [False] and not may_serve(task)

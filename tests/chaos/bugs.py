@@ -7,7 +7,9 @@ from collections.abc import Awaitable, Callable
 from typing import Any
 
 LATE = 0.5  # seconds after which a late store writes
-LET_IN_EARLY = "let-in-early"  # the bug of which only second processes of tasks tell
+STOOD = 3.5  # seconds, more than a lease, for which a task stands still
+LET_IN_EARLY, RELEASED_LATE = "let-in-early", "released-late"
+OF_SECONDS = (LET_IN_EARLY, RELEASED_LATE)  # bugs of which only second processes of tasks tell
 
 
 def answer_before_the_store() -> None:
@@ -80,6 +82,21 @@ def let_in_while_a_row_is_open() -> None:
         real(self, asked, at, 0)
 
     setattr(Rights, "judge", judge)
+
+
+def release_what_has_ended() -> None:
+    """The task stands still while it gives up a lease, and gives it up although it has ended meanwhile."""
+    from hourstable.leases import Leases
+    from hourstable.task import Task
+
+    leave = Task._leave
+
+    async def leave_late(self: Any, *given: Any) -> None:
+        await leave(self, *given)
+        time.sleep(STOOD)
+
+    setattr(Task, "_leave", leave_late)
+    setattr(Leases, "give_up", Leases.release)
 
 
 ENDED, BROKEN = 3, 14  # codes of the header
@@ -160,6 +177,7 @@ BUGS: dict[str, tuple[str, Callable[[], None]]] = {
     LET_IN_EARLY: ("control", let_in_while_a_row_is_open),
     "bridge-not-waited-for": ("control", commit_over_bridges),
     "past-end": ("task", use_a_lease_past_its_end),
+    RELEASED_LATE: ("task", release_what_has_ended),
 }
 
 

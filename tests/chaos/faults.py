@@ -8,7 +8,7 @@ from collections.abc import Callable
 from functools import partial
 from random import Random
 
-from bugs import LET_IN_EARLY
+from bugs import OF_SECONDS
 from second import HERE as SECOND
 from second import Seconds
 from world import GUARD, LOADS, TASKS, World
@@ -62,7 +62,7 @@ class Chaos:
     def second_processes(self) -> list[Kind]:
         """What happens in runs with second processes of tasks, or with a bug of which only these tell."""
         words = self.world.words
-        if not (words.second or words.bug == LET_IN_EARLY):
+        if not (words.second or words.bug in OF_SECONDS):
             return []
         return [(20 if words.bug else 5, self.seconds.begin_elsewhere), (1, self.seconds.begin_beside)]
 

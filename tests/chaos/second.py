@@ -5,6 +5,7 @@ import time
 from functools import partial
 from typing import TYPE_CHECKING
 
+from bugs import LET_IN_EARLY, RELEASED_LATE
 from healed import heard_by
 from world import GUARD
 
@@ -16,6 +17,7 @@ LOOKED = 0.2  # seconds between two looks
 LONGEST = 30.0  # seconds in which a second process is let in, and a process ends that must
 HERE = "second"  # what is busy while there is a second process elsewhere
 KILLED, ENDS, FROZEN, CUT, WELL = "is killed", "ends", "is frozen", "is cut off", "is well"
+HOW = {LET_IN_EARLY: CUT, RELEASED_LATE: ENDS}  # with a bug: it serves beside the second one, or gives up late
 LOST = (KILLED, ENDS, FROZEN, FROZEN)  # what the first process may be, so that the second one must be let in
 
 
@@ -44,6 +46,7 @@ class Seconds:
 
     def look_second(self, name: str, end: float) -> None:
         """Waits until the second process asks to be let in, and then for no time, or for a while."""
+        self.start_overtaken(name)
         chaos, second = self.chaos, self.world.seconds[name]
         if heard_by(self.world.second_address(name)) is None and second.is_alive() and time.monotonic() < end:
             chaos.after(LOOKED, partial(self.look_second, name, end))
@@ -54,8 +57,7 @@ class Seconds:
         """Kills the first process, lets it end or stand still, cuts it off from all planes, or does nothing."""
         first, chaos = self.world.processes[name], self.chaos
         how = chaos.random.choice(LOST if self.begun == 1 else (*LOST, CUT, CUT, WELL))
-        if self.world.words.bug:
-            how = CUT  # it serves meanwhile what the second one serves
+        how = HOW.get(self.world.words.bug, how)
         if how == KILLED:
             first.kill()
         elif how == ENDS:
@@ -70,6 +72,7 @@ class Seconds:
 
     def mend_first(self, name: str, how: str, end: float) -> None:
         """Lets the first process go on, or starts it again, once the second one is let in if the first is lost."""
+        self.start_overtaken(name)
         first, second, is_late = self.world.processes[name], self.world.seconds[name], time.monotonic() > end
         is_let_in = (heard_by(self.world.second_address(name)) or 0) > 0
         is_lost = how in LOST
@@ -83,6 +86,14 @@ class Seconds:
         first.go_on()
         self.world.start(name)
         self.end_second(name, overtaken, time.monotonic() + LONGEST)
+
+    def start_overtaken(self, name: str) -> None:
+        """Starts the second process again, as its supervisor does, if the first one began another life while it
+        waited: then it was overtaken."""
+        second = self.world.seconds[name]
+        if self.world.was_overtaken(second):
+            self.world.start_process(second)
+            self.chaos.happened["second processes overtaken while they waited"] += 1
 
     def end_second(self, name: str, overtaken: int, end: float) -> None:
         """Kills the second process, or lets it end, once the first one has ended so often as it was overtaken."""

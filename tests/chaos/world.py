@@ -11,7 +11,7 @@ from random import Random
 from typing import NamedTuple
 from urllib.parse import urlsplit
 
-from bugs import BUGS, LET_IN_EARLY
+from bugs import BUGS, LET_IN_EARLY, RELEASED_LATE
 from disks import Disk
 from weather import Weather
 
@@ -124,7 +124,8 @@ class World:
         words += ["--secret-file", str(self.folder / "secret")]
         words += ["--policy", json.dumps(POLICY), "--drift", str(DRIFT), "--work", "4", "--fail", str(FAIL)]
         # Half of them stop by the age of their clocks, before their leases end.
-        return [*words, "--oldest", str(10 * GUARD if task % 2 else 9 * GUARD // 10)]
+        is_long = task % 2 or self.words.bug == RELEASED_LATE
+        return [*words, "--oldest", str(10 * GUARD if is_long else 9 * GUARD // 10)]
 
     def load(self, load: int) -> Process:
         addresses = ",".join(f"{task}={self.weather.url(f'to-task-{task}')}" for task in TASKS)

@@ -6,6 +6,7 @@ pub mod Unbroken
 pub mod Nobody
 pub mod Rules
 pub mod Nearness
+pub mod Ahead
 pub mod Refusing
 pub mod Answering
 pub mod Placing

@@ -5,4 +5,5 @@ pub mod Breaking
 pub mod Reasons
 pub mod Made
 pub mod Readings
+pub mod Untimely
 pub mod internals

@@ -7,7 +7,8 @@
 //! - add the call to the [`CallPlaces`], by which the next reasons tell where a lease was heard;
 //! - ask [`GreatestReading::untimely`] whether the reading of the call is timely, and add it.
 //!
-//! [`made_so_far`] counts what a call may deliver by its number.
+//! [`made_so_far`] counts what a call may deliver by its number, and [`first_untimely`] finds the
+//! readings by which calls are not timely.
 #![tactic(auto)]
 
 mod breaks;
@@ -20,6 +21,7 @@ mod reason;
 mod reasons;
 mod refusals;
 mod rule;
+mod untimely;
 
 pub use laws::{heard_law, place_law, taken_law, unbroken_law};
 pub use made::{Delivery, made_so_far};
@@ -29,3 +31,4 @@ pub use readings::GreatestReading;
 pub use reason::{Break, KeyOwners, LeaseValues, Reason, RequestReason, RuleValues};
 pub use reasons::reason_of;
 pub use rule::request_reason;
+pub use untimely::{PlacedReading, UntimelyReadings, first_untimely};
