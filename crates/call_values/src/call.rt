@@ -18,8 +18,8 @@ use job_calls::ClusterCall;
 use key_handle::KeyHandle;
 use lease_rule::Kind;
 use log_line::{BareGrant, KeptNumbers, LoggedCall, TaskSample};
-use reply_values::large_json;
-use serde_json::{Value, json};
+use reply_values::{put_large, put_number, put_text};
+use serde_json::{Map, Value, json, put};
 use slice_ranges::SliceKey;
 use std::alloc::{AllocError, Global};
 use wire::{Numerals, assignment_json, grant_json, handle_json, kind_word, note_json};
@@ -41,21 +41,21 @@ fn lone_json(alloc: Global, name: &str) -> Result<Value, AllocError>
 fn term_call_json(alloc: Global, name: &str, number: u64, at: u64) -> Result<Value, AllocError>
     ensures { IfOk result (λ v. view v ≡ term_call_data name.now number at) }
 {
-    json!(in alloc; {
-        "at": large_json(alloc, at)?,
-        "do": name,
-        "term": large_json(alloc, number)?
-    })
+    let mut map = Map::new(alloc);
+    put_large(&mut map, alloc, "at", at)?;
+    put_text(&mut map, alloc, "do", name)?;
+    put_large(&mut map, alloc, "term", number)?;
+    Ok(Value::Object(map))
 }
 
 fn take_json(alloc: Global, assigner: u64, at: u64) -> Result<Value, AllocError>
     ensures { IfOk result (λ v. view v ≡ table_call_data (table_call.JobTake assigner at)) }
 {
-    json!(in alloc; {
-        "assigner": large_json(alloc, assigner)?,
-        "at": large_json(alloc, at)?,
-        "do": "take"
-    })
+    let mut map = Map::new(alloc);
+    put_large(&mut map, alloc, "assigner", assigner)?;
+    put_large(&mut map, alloc, "at", at)?;
+    put_text(&mut map, alloc, "do", "take")?;
+    Ok(Value::Object(map))
 }
 
 fn propose_json(
@@ -67,31 +67,35 @@ fn propose_json(
     ensures { IfOk result (λ v. view v ≡ table_call_data (table_call.Propose number assignment.now at)) }
 {
     let slices = assignment_slices_json(alloc, assignment)?;
-    json!(in alloc; {
-        "at": large_json(alloc, at)?,
-        "do": "propose",
-        "generation": large_json(alloc, assignment.generation())?,
-        "slices": slices,
-        "term": large_json(alloc, number)?
-    })
+    let mut map = Map::new(alloc);
+    put_large(&mut map, alloc, "at", at)?;
+    put_text(&mut map, alloc, "do", "propose")?;
+    put_large(&mut map, alloc, "generation", assignment.generation())?;
+    put(&mut map, alloc, "slices", slices)?;
+    put_large(&mut map, alloc, "term", number)?;
+    Ok(Value::Object(map))
 }
 
 fn grant_call_json(alloc: Global, task: TaskId, life: u32, at: u64) -> Result<Value, AllocError>
     ensures { IfOk result (λ v. view v ≡ table_call_data (table_call.Grant task life at)) }
 {
-    json!(in alloc; {
-        "at": large_json(alloc, at)?,
-        "do": "grant",
-        "life": life,
-        "task": task.number()
-    })
+    let mut map = Map::new(alloc);
+    put_large(&mut map, alloc, "at", at)?;
+    put_text(&mut map, alloc, "do", "grant")?;
+    put_number(&mut map, alloc, "life", life as u64)?;
+    put_number(&mut map, alloc, "task", task.number())?;
+    Ok(Value::Object(map))
 }
 
 fn free_json(alloc: Global, note: &ReleaseNote, at: u64) -> Result<Value, AllocError>
     ensures { IfOk result (λ v. view v ≡ table_call_data (table_call.Free note.now at)) }
 {
     let note = note_json(alloc, Numerals::Quoted, note)?;
-    json!(in alloc; {"at": large_json(alloc, at)?, "do": "free", "note": note})
+    let mut map = Map::new(alloc);
+    put_large(&mut map, alloc, "at", at)?;
+    put_text(&mut map, alloc, "do", "free")?;
+    put(&mut map, alloc, "note", note)?;
+    Ok(Value::Object(map))
 }
 
 fn table_call_json(alloc: Global, call: &TableCall) -> Result<Value, AllocError>
@@ -115,23 +119,23 @@ fn table_call_json(alloc: Global, call: &TableCall) -> Result<Value, AllocError>
 fn start_json(alloc: Global, task: u64, life: u32, at: u64) -> Result<Value, AllocError>
     ensures { IfOk result (λ v. view v ≡ task_call_data task (task_call.Start life at)) }
 {
-    json!(in alloc; {
-        "at": large_json(alloc, at)?,
-        "do": "start",
-        "life": life,
-        "task": task
-    })
+    let mut map = Map::new(alloc);
+    put_large(&mut map, alloc, "at", at)?;
+    put_text(&mut map, alloc, "do", "start")?;
+    put_number(&mut map, alloc, "life", life as u64)?;
+    put_number(&mut map, alloc, "task", task)?;
+    Ok(Value::Object(map))
 }
 
 fn heard_json(alloc: Global, task: u64, grant: Value, at: u64) -> Result<Value, AllocError>
     ensures { IfOk result (λ v. view v ≡ heard_data task (view grant) at) }
 {
-    json!(in alloc; {
-        "at": large_json(alloc, at)?,
-        "do": "hear",
-        "grant": grant,
-        "task": task
-    })
+    let mut map = Map::new(alloc);
+    put_large(&mut map, alloc, "at", at)?;
+    put_text(&mut map, alloc, "do", "hear")?;
+    put(&mut map, alloc, "grant", grant)?;
+    put_number(&mut map, alloc, "task", task)?;
+    Ok(Value::Object(map))
 }
 
 fn hear_json(alloc: Global, task: u64, grant: &Grant, at: u64) -> Result<Value, AllocError>
@@ -144,18 +148,22 @@ fn hear_json(alloc: Global, task: u64, grant: &Grant, at: u64) -> Result<Value, 
 fn release_json(alloc: Global, task: u64, kind: Kind, at: u64) -> Result<Value, AllocError>
     ensures { IfOk result (λ v. view v ≡ task_call_data task (task_call.Release kind at)) }
 {
-    json!(in alloc; {
-        "at": large_json(alloc, at)?,
-        "do": "release",
-        "kind": kind_word(kind),
-        "task": task
-    })
+    let mut map = Map::new(alloc);
+    put_large(&mut map, alloc, "at", at)?;
+    put_text(&mut map, alloc, "do", "release")?;
+    put_text(&mut map, alloc, "kind", kind_word(kind))?;
+    put_number(&mut map, alloc, "task", task)?;
+    Ok(Value::Object(map))
 }
 
 fn open_json(alloc: Global, task: u64, life: u32) -> Result<Value, AllocError>
     ensures { IfOk result (λ v. view v ≡ task_call_data task (task_call.Resume life)) }
 {
-    json!(in alloc; {"do": "open", "life": life, "task": task})
+    let mut map = Map::new(alloc);
+    put_text(&mut map, alloc, "do", "open")?;
+    put_number(&mut map, alloc, "life", life as u64)?;
+    put_number(&mut map, alloc, "task", task)?;
+    Ok(Value::Object(map))
 }
 
 fn task_call_json(alloc: Global, task: u64, call: &SliceletCall) -> Result<Value, AllocError>
@@ -173,18 +181,21 @@ fn learn_json(alloc: Global, clerk: u64, assignment: &Assignment) -> Result<Valu
     ensures { IfOk result (λ v. view v ≡ learnt_data clerk assignment.now) }
 {
     let slices = assignment_slices_json(alloc, assignment)?;
-    json!(in alloc; {
-        "clerk": clerk,
-        "do": "learn",
-        "generation": large_json(alloc, assignment.generation())?,
-        "slices": slices
-    })
+    let mut map = Map::new(alloc);
+    put_number(&mut map, alloc, "clerk", clerk)?;
+    put_text(&mut map, alloc, "do", "learn")?;
+    put_large(&mut map, alloc, "generation", assignment.generation())?;
+    put(&mut map, alloc, "slices", slices)?;
+    Ok(Value::Object(map))
 }
 
 fn forget_json(alloc: Global, clerk: u64) -> Result<Value, AllocError>
     ensures { IfOk result (λ v. view v ≡ clerk_call_data clerk clerk_call.Forget) }
 {
-    json!(in alloc; {"clerk": clerk, "do": "forget"})
+    let mut map = Map::new(alloc);
+    put_number(&mut map, alloc, "clerk", clerk)?;
+    put_text(&mut map, alloc, "do", "forget")?;
+    Ok(Value::Object(map))
 }
 
 fn clerk_call_json(alloc: Global, clerk: u64, call: &ClerkCall) -> Result<Value, AllocError>
@@ -205,34 +216,34 @@ fn key_json(
 ) -> Result<Value, AllocError>
     ensures { IfOk result (λ v. view v ≡ key_data name.now task key at) }
 {
-    json!(in alloc; {
-        "at": large_json(alloc, at)?,
-        "do": name,
-        "slice_key": large_json(alloc, key.value())?,
-        "task": task
-    })
+    let mut map = Map::new(alloc);
+    put_large(&mut map, alloc, "at", at)?;
+    put_text(&mut map, alloc, "do", name)?;
+    put_large(&mut map, alloc, "slice_key", key.value())?;
+    put_number(&mut map, alloc, "task", task)?;
+    Ok(Value::Object(map))
 }
 
 fn check_json(alloc: Global, task: u64, handle: &KeyHandle, at: u64) -> Result<Value, AllocError>
     ensures { IfOk result (λ v. view v ≡ machine_data (cluster_call.Check task handle.now at)) }
 {
     let handle = handle_json(alloc, Numerals::Quoted, handle)?;
-    json!(in alloc; {
-        "at": large_json(alloc, at)?,
-        "do": "check",
-        "handle": handle,
-        "task": task
-    })
+    let mut map = Map::new(alloc);
+    put_large(&mut map, alloc, "at", at)?;
+    put_text(&mut map, alloc, "do", "check")?;
+    put(&mut map, alloc, "handle", handle)?;
+    put_number(&mut map, alloc, "task", task)?;
+    Ok(Value::Object(map))
 }
 
 fn look_json(alloc: Global, clerk: u64, key: SliceKey) -> Result<Value, AllocError>
     ensures { IfOk result (λ v. view v ≡ machine_data (cluster_call.Look clerk key)) }
 {
-    json!(in alloc; {
-        "clerk": clerk,
-        "do": "look",
-        "slice_key": large_json(alloc, key.value())?
-    })
+    let mut map = Map::new(alloc);
+    put_number(&mut map, alloc, "clerk", clerk)?;
+    put_text(&mut map, alloc, "do", "look")?;
+    put_large(&mut map, alloc, "slice_key", key.value())?;
+    Ok(Value::Object(map))
 }
 
 fn machine_json(alloc: Global, call: &ClusterCall) -> Result<Value, AllocError>
@@ -254,15 +265,15 @@ fn machine_json(alloc: Global, call: &ClusterCall) -> Result<Value, AllocError>
 fn bare_json(alloc: Global, grant: &BareGrant) -> Result<Value, AllocError>
     ensures { IfOk result (λ v. view v ≡ bare_data grant.now) }
 {
-    json!(in alloc; {
-        "ends": large_json(alloc, grant.ends)?,
-        "generation": large_json(alloc, grant.generation)?,
-        "kind": kind_word(grant.kind),
-        "life": grant.life,
-        "number": large_json(alloc, grant.number)?,
-        "task": grant.task.number(),
-        "until": large_json(alloc, grant.table_ends)?
-    })
+    let mut map = Map::new(alloc);
+    put_large(&mut map, alloc, "ends", grant.ends)?;
+    put_large(&mut map, alloc, "generation", grant.generation)?;
+    put_text(&mut map, alloc, "kind", kind_word(grant.kind))?;
+    put_number(&mut map, alloc, "life", grant.life as u64)?;
+    put_large(&mut map, alloc, "number", grant.number)?;
+    put_number(&mut map, alloc, "task", grant.task.number())?;
+    put_large(&mut map, alloc, "until", grant.table_ends)?;
+    Ok(Value::Object(map))
 }
 
 fn bare_hear_json(alloc: Global, task: u64, grant: &BareGrant, at: u64) -> Result<Value, AllocError>
@@ -275,34 +286,34 @@ fn bare_hear_json(alloc: Global, task: u64, grant: &BareGrant, at: u64) -> Resul
 fn bare_learn_json(alloc: Global, clerk: u64, generation: u64) -> Result<Value, AllocError>
     ensures { IfOk result (λ v. view v ≡ bare_learnt_data clerk generation) }
 {
-    json!(in alloc; {
-        "clerk": clerk,
-        "do": "learn",
-        "generation": large_json(alloc, generation)?
-    })
+    let mut map = Map::new(alloc);
+    put_number(&mut map, alloc, "clerk", clerk)?;
+    put_text(&mut map, alloc, "do", "learn")?;
+    put_large(&mut map, alloc, "generation", generation)?;
+    Ok(Value::Object(map))
 }
 
 fn restore_json(alloc: Global, kept: KeptNumbers) -> Result<Value, AllocError>
     ensures { IfOk result (λ v. view v ≡ restore_data kept) }
 {
-    json!(in alloc; {
-        "deadline": large_json(alloc, kept.deadline)?,
-        "do": "restore",
-        "granted": large_json(alloc, kept.granted)?,
-        "last": large_json(alloc, kept.last)?
-    })
+    let mut map = Map::new(alloc);
+    put_large(&mut map, alloc, "deadline", kept.deadline)?;
+    put_text(&mut map, alloc, "do", "restore")?;
+    put_large(&mut map, alloc, "granted", kept.granted)?;
+    put_large(&mut map, alloc, "last", kept.last)?;
+    Ok(Value::Object(map))
 }
 
 fn sample_json(alloc: Global, taken: TaskSample) -> Result<Value, AllocError>
     ensures { IfOk result (λ v. view v ≡ sample_data taken) }
 {
-    json!(in alloc; {
-        "do": "sample",
-        "now": large_json(alloc, taken.now)?,
-        "reading": large_json(alloc, taken.sample.reading)?,
-        "sent": large_json(alloc, taken.sample.sent)?,
-        "task": taken.task
-    })
+    let mut map = Map::new(alloc);
+    put_text(&mut map, alloc, "do", "sample")?;
+    put_large(&mut map, alloc, "now", taken.now)?;
+    put_large(&mut map, alloc, "reading", taken.sample.reading)?;
+    put_large(&mut map, alloc, "sent", taken.sample.sent)?;
+    put_number(&mut map, alloc, "task", taken.task)?;
+    Ok(Value::Object(map))
 }
 
 /// Converts a call of a log to JSON: `do`, and the members that it has in a log, but for its ticket

@@ -15,7 +15,7 @@ mod told;
 mod words;
 
 pub use call::call_json;
-pub use laws::{call_law, line_law, told_law};
+pub use laws::{call_law, told_law};
 pub use sent::Sent;
 pub use step::step_json;
 pub use told::told_json;

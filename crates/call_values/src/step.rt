@@ -14,8 +14,8 @@ use clerk::ClerkCall;
 use grants::SliceletCall;
 use job_calls::ClusterCall;
 use log_line::LoggedCall;
-use reply_values::{large_json, slices_json};
-use serde_json::{Value, json};
+use reply_values::{put_large, put_number, put_text, slices_json};
+use serde_json::{Map, Value, json, put};
 use slice_ranges::slice_key;
 use std::alloc::{AllocError, Global};
 use world::Step;
@@ -53,22 +53,22 @@ fn forget_json(alloc: Global, clerk: u64) -> Result<Value, AllocError>
 fn grant_json(alloc: Global, task: u64, life: u32, at: u64) -> Result<Value, AllocError>
     ensures { IfOk result (λ v. view v ≡ alone_data (step.Grant task life at)) }
 {
-    json!(in alloc; {
-        "at": large_json(alloc, at)?,
-        "do": "grant",
-        "life": life,
-        "task": task
-    })
+    let mut map = Map::new(alloc);
+    put_large(&mut map, alloc, "at", at)?;
+    put_text(&mut map, alloc, "do", "grant")?;
+    put_number(&mut map, alloc, "life", life as u64)?;
+    put_number(&mut map, alloc, "task", task)?;
+    Ok(Value::Object(map))
 }
 
 fn assigner_json(alloc: Global, name: &str, assigner: u64, at: u64) -> Result<Value, AllocError>
     ensures { IfOk result (λ v. view v ≡ assigner_data name.now assigner at) }
 {
-    json!(in alloc; {
-        "assigner": large_json(alloc, assigner)?,
-        "at": large_json(alloc, at)?,
-        "do": name
-    })
+    let mut map = Map::new(alloc);
+    put_large(&mut map, alloc, "assigner", assigner)?;
+    put_large(&mut map, alloc, "at", at)?;
+    put_text(&mut map, alloc, "do", name)?;
+    Ok(Value::Object(map))
 }
 
 fn propose_json(
@@ -81,23 +81,23 @@ fn propose_json(
     ensures { IfOk result (λ v. view v ≡ proposed_data assigner generation slices.now at) }
 {
     let slices = slices_json(alloc, slices)?;
-    json!(in alloc; {
-        "assigner": large_json(alloc, assigner)?,
-        "at": large_json(alloc, at)?,
-        "do": "propose",
-        "generation": large_json(alloc, generation)?,
-        "slices": slices
-    })
+    let mut map = Map::new(alloc);
+    put_large(&mut map, alloc, "assigner", assigner)?;
+    put_large(&mut map, alloc, "at", at)?;
+    put_text(&mut map, alloc, "do", "propose")?;
+    put_large(&mut map, alloc, "generation", generation)?;
+    put(&mut map, alloc, "slices", slices)?;
+    Ok(Value::Object(map))
 }
 
 fn free_json(alloc: Global, note: u64, at: u64) -> Result<Value, AllocError>
     ensures { IfOk result (λ v. view v ≡ alone_data (step.Free note at)) }
 {
-    json!(in alloc; {
-        "at": large_json(alloc, at)?,
-        "do": "free",
-        "number": large_json(alloc, note)?
-    })
+    let mut map = Map::new(alloc);
+    put_large(&mut map, alloc, "at", at)?;
+    put_text(&mut map, alloc, "do", "free")?;
+    put_large(&mut map, alloc, "number", note)?;
+    Ok(Value::Object(map))
 }
 
 fn delivery_json(
@@ -109,12 +109,12 @@ fn delivery_json(
 ) -> Result<Value, AllocError>
     ensures { IfOk result (λ v. view v ≡ delivery_data name.now task number at) }
 {
-    json!(in alloc; {
-        "at": large_json(alloc, at)?,
-        "do": name,
-        "number": large_json(alloc, number)?,
-        "task": task
-    })
+    let mut map = Map::new(alloc);
+    put_large(&mut map, alloc, "at", at)?;
+    put_text(&mut map, alloc, "do", name)?;
+    put_large(&mut map, alloc, "number", number)?;
+    put_number(&mut map, alloc, "task", task)?;
+    Ok(Value::Object(map))
 }
 
 fn key_text(alloc: Global, key: &[u8]) -> Result<Value, AllocError>
@@ -132,24 +132,24 @@ fn asked_json(
 ) -> Result<Value, AllocError>
     ensures { IfOk result (λ v. view v ≡ asked_data name.now task key.now at) }
 {
-    json!(in alloc; {
-        "at": large_json(alloc, at)?,
-        "do": name,
-        "key": key_text(alloc, key)?,
-        "slice_key": large_json(alloc, slice_key(key).value())?,
-        "task": task
-    })
+    let mut map = Map::new(alloc);
+    put_large(&mut map, alloc, "at", at)?;
+    put_text(&mut map, alloc, "do", name)?;
+    put(&mut map, alloc, "key", key_text(alloc, key)?)?;
+    put_large(&mut map, alloc, "slice_key", slice_key(key).value())?;
+    put_number(&mut map, alloc, "task", task)?;
+    Ok(Value::Object(map))
 }
 
 fn look_json(alloc: Global, clerk: u64, key: &[u8]) -> Result<Value, AllocError>
     ensures { IfOk result (λ v. view v ≡ alone_data (step.Look clerk key.now)) }
 {
-    json!(in alloc; {
-        "clerk": clerk,
-        "do": "look",
-        "key": key_text(alloc, key)?,
-        "slice_key": large_json(alloc, slice_key(key).value())?
-    })
+    let mut map = Map::new(alloc);
+    put_number(&mut map, alloc, "clerk", clerk)?;
+    put_text(&mut map, alloc, "do", "look")?;
+    put(&mut map, alloc, "key", key_text(alloc, key)?)?;
+    put_large(&mut map, alloc, "slice_key", slice_key(key).value())?;
+    Ok(Value::Object(map))
 }
 
 // Writes a step without what it delivers.

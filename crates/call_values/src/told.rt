@@ -7,8 +7,8 @@ ghost use Rattle.log_line.specs.Told.{fault_word};
 ghost use Rattle.call_values.specs.Told.{not_restored_data, told_data};
 
 use log_line::{CallerReply, KeptNumbers, RestoreFault};
-use reply_values::{large_json, reply_json};
-use serde_json::{Value, json};
+use reply_values::{put_large, put_number, put_text, reply_json};
+use serde_json::{Map, Value, json};
 use std::alloc::{AllocError, Global};
 
 fn fault_word(fault: RestoreFault) -> &'static str
@@ -28,28 +28,31 @@ fn not_restored_json(
 ) -> Result<Value, AllocError>
     ensures { IfOk result (λ v. view v ≡ not_restored_data fault kept) }
 {
-    json!(in alloc; {
-        "deadline": large_json(alloc, kept.deadline)?,
-        "granted": large_json(alloc, kept.granted)?,
-        "last": large_json(alloc, kept.last)?,
-        "refused": fault_word(fault)
-    })
+    let mut map = Map::new(alloc);
+    put_large(&mut map, alloc, "deadline", kept.deadline)?;
+    put_large(&mut map, alloc, "granted", kept.granted)?;
+    put_large(&mut map, alloc, "last", kept.last)?;
+    put_text(&mut map, alloc, "refused", fault_word(fault))?;
+    Ok(Value::Object(map))
 }
 
 fn opened_json(alloc: Global, life: u32) -> Result<Value, AllocError>
     ensures { IfOk result (λ v. view v ≡ told_data (told.Opened life)) }
 {
-    json!(in alloc; {"life": life, "reply": "opened"})
+    let mut map = Map::new(alloc);
+    put_number(&mut map, alloc, "life", life as u64)?;
+    put_text(&mut map, alloc, "reply", "opened")?;
+    Ok(Value::Object(map))
 }
 
 fn restored_json(alloc: Global, generation: u64, grace: u64) -> Result<Value, AllocError>
     ensures { IfOk result (λ v. view v ≡ told_data (told.Restored generation grace)) }
 {
-    json!(in alloc; {
-        "generation": large_json(alloc, generation)?,
-        "grace": large_json(alloc, grace)?,
-        "reply": "restored"
-    })
+    let mut map = Map::new(alloc);
+    put_large(&mut map, alloc, "generation", generation)?;
+    put_large(&mut map, alloc, "grace", grace)?;
+    put_text(&mut map, alloc, "reply", "restored")?;
+    Ok(Value::Object(map))
 }
 
 fn sampled_json(alloc: Global) -> Result<Value, AllocError>

@@ -8,13 +8,15 @@ mod answered;
 mod large;
 mod laws;
 mod lists;
+mod members;
 mod plan;
 mod refusal;
 mod reply;
 
 pub use answered::{Warnings, answered_json, with_member};
 pub use large::large_json;
-pub use laws::{line_law, reply_law};
+pub use laws::reply_law;
 pub use lists::slices_json;
+pub use members::{put_large, put_number, put_text};
 pub use refusal::refusal_json;
 pub use reply::reply_json;

@@ -2,15 +2,18 @@
 
 ghost use Rattle.std.specs.Prelude.{◌≡◌, IfOk};
 ghost use Rattle.serde_json.specs.View.{view};
+ghost use Rattle.grants.specs.declared.table_error.TableError.TheVariants as table;
 ghost use Rattle.replies.specs.Lines.{refusal_words};
-ghost use Rattle.reply_values.specs.Refusals.{clerk_data, refusal_data, slicelet_data, table_data};
+ghost use Rattle.reply_values.specs.Refusals.{clerk_data, refusal_data, refused_generation_data, refused_number_data, refused_until_data, slicelet_data, table_data};
 ghost use Rattle.reply_values.specs.Values.{refused_data};
 
-use crate::large::large_json;
+use crate::members::{put_large, put_number, put_text};
+use assignment::TaskId;
 use clerk::ClerkError;
 use grants::{SliceletError, TableError};
+use lease_rule::Kind;
 use replies::{Refusal, RefusalWords};
-use serde_json::{Value, json};
+use serde_json::{Map, Value, json};
 use std::alloc::{AllocError, Global};
 use wire::kind_word;
 
@@ -22,29 +25,56 @@ fn word_json(alloc: Global, refusal: Refusal) -> Result<Value, AllocError>
     json!(in alloc; {"refused": word})
 }
 
+// Writes a refusal that names a reading.
+fn until_json(alloc: Global, word: &str, until: u64) -> Result<Value, AllocError>
+    ensures { IfOk result (λ v. view v ≡ refused_until_data word.now until) }
+{
+    let mut map = Map::new(alloc);
+    put_text(&mut map, alloc, "refused", word)?;
+    put_large(&mut map, alloc, "until", until)?;
+    Ok(Value::Object(map))
+}
+
+// Writes a refusal that names the number of a term or a grant.
+fn number_json(alloc: Global, word: &str, number: u64) -> Result<Value, AllocError>
+    ensures { IfOk result (λ v. view v ≡ refused_number_data word.now number) }
+{
+    let mut map = Map::new(alloc);
+    put_large(&mut map, alloc, "number", number)?;
+    put_text(&mut map, alloc, "refused", word)?;
+    Ok(Value::Object(map))
+}
+
+// Writes a refusal that names a generation.
+fn generation_json(alloc: Global, word: &str, generation: u64) -> Result<Value, AllocError>
+    ensures { IfOk result (λ v. view v ≡ refused_generation_data word.now generation) }
+{
+    let mut map = Map::new(alloc);
+    put_large(&mut map, alloc, "generation", generation)?;
+    put_text(&mut map, alloc, "refused", word)?;
+    Ok(Value::Object(map))
+}
+
+fn held_json(alloc: Global, task: TaskId, kind: Kind, number: u64) -> Result<Value, AllocError>
+    ensures { IfOk result (λ v. view v ≡ table_data (table.Held task kind number)) }
+{
+    let mut map = Map::new(alloc);
+    put_text(&mut map, alloc, "kind", kind_word(kind))?;
+    put_large(&mut map, alloc, "number", number)?;
+    put_text(&mut map, alloc, "refused", "held")?;
+    put_number(&mut map, alloc, "task", task.number())?;
+    Ok(Value::Object(map))
+}
+
 fn table_json(alloc: Global, error: TableError) -> Result<Value, AllocError>
     ensures { IfOk result (λ v. view v ≡ table_data error) }
 {
     match error {
-        TableError::JobHeld { until } => {
-            json!(in alloc; {"refused": "job-held", "until": large_json(alloc, until)?})
-        }
-        TableError::NotHolder { term } => {
-            json!(in alloc; {"number": large_json(alloc, term)?, "refused": "not-holder"})
-        }
-        TableError::StaleBase { generation } => json!(in alloc; {
-            "generation": large_json(alloc, generation)?,
-            "refused": "stale-base"
-        }),
-        TableError::Grace { until } => {
-            json!(in alloc; {"refused": "grace", "until": large_json(alloc, until)?})
-        }
-        TableError::Held { task, kind, number } => json!(in alloc; {
-            "kind": kind_word(kind),
-            "number": large_json(alloc, number)?,
-            "refused": "held",
-            "task": task.number()
-        }),
+        TableError::JobHeld { until } => until_json(alloc, "job-held", until),
+        TableError::NotHolder { term } => number_json(alloc, "not-holder", term),
+        TableError::StaleBase { generation } => generation_json(alloc, "stale-base", generation),
+        TableError::Grace { until } => until_json(alloc, "grace", until),
+        TableError::Held { task, kind, number } => held_json(alloc, task, kind, number),
         TableError::ReadingRange
         | TableError::ClockBack
         | TableError::Pending
@@ -60,9 +90,7 @@ fn slicelet_json(alloc: Global, error: SliceletError) -> Result<Value, AllocErro
     ensures { IfOk result (λ v. view v ≡ slicelet_data error) }
 {
     match error {
-        SliceletError::Old { heard } => {
-            json!(in alloc; {"number": large_json(alloc, heard)?, "refused": "old"})
-        }
+        SliceletError::Old { heard } => number_json(alloc, "old", heard),
         SliceletError::NotStarted
         | SliceletError::OldLife
         | SliceletError::ClockBack
@@ -78,9 +106,7 @@ fn clerk_json(alloc: Global, error: ClerkError) -> Result<Value, AllocError>
     ensures { IfOk result (λ v. view v ≡ clerk_data error) }
 {
     match error {
-        ClerkError::Old { generation } => {
-            json!(in alloc; {"generation": large_json(alloc, generation)?, "refused": "old"})
-        }
+        ClerkError::Old { generation } => generation_json(alloc, "old", generation),
     }
 }
 

@@ -2,21 +2,24 @@
 
 ghost use Rattle.std.specs.Prelude.{◌≡◌, IfOk};
 ghost use Rattle.serde_json.specs.View.{view};
+ghost use Rattle.lease_rule.specs.declared.answer.Ground.TheVariants as ground;
+ghost use Rattle.lease_rule.specs.declared.answer.Verdict.TheVariants as verdict;
+ghost use Rattle.grants.specs.declared.values.Phase.TheVariants as phase;
 ghost use Rattle.replies.specs.declared.reply.Reply.TheVariants as reply;
 ghost use Rattle.reply_values.specs.Replies.{denied_data, generation_data, granted_data, holding_data, phase_data, released_data, reply_data, row_count_data, term_data, verdict_data};
 ghost use Rattle.reply_values.specs.Values.{plain_data};
 
-use crate::large::large_json;
 use crate::lists::{numbers_json, rows_json, tasks_json};
+use crate::members::{put_large, put_number, put_text};
 use crate::plan::plan_json;
 use crate::refusal::refusal_json;
 use assigner::Action;
 use clerk::Found;
 use grants::{Grant, JobTerm, Phase, ReleaseNote, Row};
 use key_handle::KeyHandle;
-use lease_rule::{Ground, Verdict};
+use lease_rule::{Ground, Kind, Verdict};
 use replies::{Hex, OwnerList, Reply, action_word};
-use serde_json::{Value, json};
+use serde_json::{Map, Value, json, put};
 use slice_ranges::SliceKey;
 use std::alloc::{AllocError, Global};
 use wire::kind_word;
@@ -31,7 +34,10 @@ pub fn plain_json(alloc: Global, name: &str) -> Result<Value, AllocError>
 fn generation_json(alloc: Global, name: &str, generation: u64) -> Result<Value, AllocError>
     ensures { IfOk result (λ v. view v ≡ generation_data name.now generation) }
 {
-    json!(in alloc; {"generation": large_json(alloc, generation)?, "reply": name})
+    let mut map = Map::new(alloc);
+    put_large(&mut map, alloc, "generation", generation)?;
+    put_text(&mut map, alloc, "reply", name)?;
+    Ok(Value::Object(map))
 }
 
 fn row_count_json(alloc: Global, name: &str, rows: u64) -> Result<Value, AllocError>
@@ -43,11 +49,20 @@ fn row_count_json(alloc: Global, name: &str, rows: u64) -> Result<Value, AllocEr
 fn term_json(alloc: Global, name: &str, term: JobTerm) -> Result<Value, AllocError>
     ensures { IfOk result (λ v. view v ≡ term_data name.now term) }
 {
-    json!(in alloc; {
-        "number": large_json(alloc, term.number)?,
-        "reply": name,
-        "until": large_json(alloc, term.until)?
-    })
+    let mut map = Map::new(alloc);
+    put_large(&mut map, alloc, "number", term.number)?;
+    put_text(&mut map, alloc, "reply", name)?;
+    put_large(&mut map, alloc, "until", term.until)?;
+    Ok(Value::Object(map))
+}
+
+fn not_owned_json(alloc: Global, generation: u64) -> Result<Value, AllocError>
+    ensures { IfOk result (λ v. view v ≡ denied_data (ground.NotOwned generation)) }
+{
+    let mut map = Map::new(alloc);
+    put_text(&mut map, alloc, "denied", "not-owned")?;
+    put_large(&mut map, alloc, "generation", generation)?;
+    Ok(Value::Object(map))
 }
 
 fn denied_json(alloc: Global, ground: Ground) -> Result<Value, AllocError>
@@ -57,42 +72,57 @@ fn denied_json(alloc: Global, ground: Ground) -> Result<Value, AllocError>
         Ground::Down => json!(in alloc; {"denied": "down"}),
         Ground::ClockBack => json!(in alloc; {"denied": "clock-back"}),
         Ground::Ended => json!(in alloc; {"denied": "ended"}),
-        Ground::NotOwned { generation } => json!(in alloc; {
-            "denied": "not-owned",
-            "generation": large_json(alloc, generation)?
-        }),
+        Ground::NotOwned { generation } => not_owned_json(alloc, generation),
         Ground::NoLease => json!(in alloc; {"denied": "no-lease"}),
     }
+}
+
+fn served_json(alloc: Global, kind: Kind, generation: u64) -> Result<Value, AllocError>
+    ensures { IfOk result (λ v. view v ≡ verdict_data (verdict.Allow kind generation)) }
+{
+    let mut map = Map::new(alloc);
+    put_large(&mut map, alloc, "generation", generation)?;
+    put_text(&mut map, alloc, "kind", kind_word(kind))?;
+    put_text(&mut map, alloc, "reply", "served")?;
+    Ok(Value::Object(map))
 }
 
 fn verdict_json(alloc: Global, verdict: Verdict) -> Result<Value, AllocError>
     ensures { IfOk result (λ v. view v ≡ verdict_data verdict) }
 {
     match verdict {
-        Verdict::Allow { kind, generation } => json!(in alloc; {
-            "generation": large_json(alloc, generation)?,
-            "kind": kind_word(kind),
-            "reply": "served"
-        }),
+        Verdict::Allow { kind, generation } => served_json(alloc, kind, generation),
         Verdict::Deny(ground) => denied_json(alloc, ground),
     }
+}
+
+fn steady_json(alloc: Global, generation: u64) -> Result<Value, AllocError>
+    ensures { IfOk result (λ v. view v ≡ phase_data (phase.Steady generation)) }
+{
+    let mut map = Map::new(alloc);
+    put_large(&mut map, alloc, "generation", generation)?;
+    put_text(&mut map, alloc, "phase", "steady")?;
+    put_text(&mut map, alloc, "reply", "phase")?;
+    Ok(Value::Object(map))
+}
+
+fn bridging_json(alloc: Global, from: u64, to: u64) -> Result<Value, AllocError>
+    ensures { IfOk result (λ v. view v ≡ phase_data (phase.Bridging from to)) }
+{
+    let mut map = Map::new(alloc);
+    put_large(&mut map, alloc, "from", from)?;
+    put_text(&mut map, alloc, "phase", "bridging")?;
+    put_text(&mut map, alloc, "reply", "phase")?;
+    put_large(&mut map, alloc, "to", to)?;
+    Ok(Value::Object(map))
 }
 
 fn phase_json(alloc: Global, phase: Phase) -> Result<Value, AllocError>
     ensures { IfOk result (λ v. view v ≡ phase_data phase) }
 {
     match phase {
-        Phase::Steady(generation) => json!(in alloc; {
-            "generation": large_json(alloc, generation)?,
-            "phase": "steady",
-            "reply": "phase"
-        }),
-        Phase::Bridging(from, to) => json!(in alloc; {
-            "from": large_json(alloc, from)?,
-            "phase": "bridging",
-            "reply": "phase",
-            "to": large_json(alloc, to)?
-        }),
+        Phase::Steady(generation) => steady_json(alloc, generation),
+        Phase::Bridging(from, to) => bridging_json(alloc, from, to),
     }
 }
 
@@ -100,55 +130,64 @@ fn key_json(alloc: Global, key: SliceKey) -> Result<Value, AllocError>
     ensures { IfOk result (λ v. view v ≡ reply_data (reply.Key key)) }
 {
     let key = format!(in alloc; "{}", Hex(key.value()))?;
-    json!(in alloc; {"key": key, "reply": "key"})
+    let mut map = Map::new(alloc);
+    put_text(&mut map, alloc, "key", key.as_str())?;
+    put_text(&mut map, alloc, "reply", "key")?;
+    Ok(Value::Object(map))
 }
 
 fn assigned_json(alloc: Global, generation: u64, slices: usize) -> Result<Value, AllocError>
     ensures { IfOk result (λ v. view v ≡ reply_data (reply.Assigned generation slices)) }
 {
-    json!(in alloc; {
-        "generation": large_json(alloc, generation)?,
-        "reply": "assigned",
-        "slices": slices
-    })
+    let mut map = Map::new(alloc);
+    put_large(&mut map, alloc, "generation", generation)?;
+    put_text(&mut map, alloc, "reply", "assigned")?;
+    put_number(&mut map, alloc, "slices", slices as u64)?;
+    Ok(Value::Object(map))
 }
 
 fn owners_json(alloc: Global, owners: &OwnerList) -> Result<Value, AllocError>
     ensures { IfOk result (λ v. view v ≡ reply_data (reply.Owners owners.now)) }
 {
     let owners = tasks_json(alloc, owners.as_slice())?;
-    json!(in alloc; {"owners": owners, "reply": "owners"})
+    let mut map = Map::new(alloc);
+    put(&mut map, alloc, "owners", owners)?;
+    put_text(&mut map, alloc, "reply", "owners")?;
+    Ok(Value::Object(map))
 }
 
 fn found_json(alloc: Global, found: &Found) -> Result<Value, AllocError>
     ensures { IfOk result (λ v. view v ≡ reply_data (reply.Found found.now)) }
 {
     let owners = tasks_json(alloc, found.owners.as_slice())?;
-    json!(in alloc; {
-        "generation": large_json(alloc, found.generation)?,
-        "owners": owners,
-        "reply": "found"
-    })
+    let mut map = Map::new(alloc);
+    put_large(&mut map, alloc, "generation", found.generation)?;
+    put(&mut map, alloc, "owners", owners)?;
+    put_text(&mut map, alloc, "reply", "found")?;
+    Ok(Value::Object(map))
 }
 
 fn open_rows_json(alloc: Global, rows: &[Row]) -> Result<Value, AllocError>
     ensures { IfOk result (λ v. view v ≡ reply_data (reply.Rows rows.now)) }
 {
     let rows = rows_json(alloc, rows)?;
-    json!(in alloc; {"reply": "rows", "rows": rows})
+    let mut map = Map::new(alloc);
+    put_text(&mut map, alloc, "reply", "rows")?;
+    put(&mut map, alloc, "rows", rows)?;
+    Ok(Value::Object(map))
 }
 
 fn granted_json(alloc: Global, grant: &Grant) -> Result<Value, AllocError>
     ensures { IfOk result (λ v. view v ≡ granted_data grant.now) }
 {
-    json!(in alloc; {
-        "ends": large_json(alloc, grant.lease.ends)?,
-        "generation": large_json(alloc, grant.lease.generation)?,
-        "kind": kind_word(grant.lease.kind),
-        "number": large_json(alloc, grant.number)?,
-        "reply": "grant",
-        "until": large_json(alloc, grant.table_ends)?
-    })
+    let mut map = Map::new(alloc);
+    put_large(&mut map, alloc, "ends", grant.lease.ends)?;
+    put_large(&mut map, alloc, "generation", grant.lease.generation)?;
+    put_text(&mut map, alloc, "kind", kind_word(grant.lease.kind))?;
+    put_large(&mut map, alloc, "number", grant.number)?;
+    put_text(&mut map, alloc, "reply", "grant")?;
+    put_large(&mut map, alloc, "until", grant.table_ends)?;
+    Ok(Value::Object(map))
 }
 
 fn started_json(alloc: Global, life: u32) -> Result<Value, AllocError>
@@ -160,29 +199,32 @@ fn started_json(alloc: Global, life: u32) -> Result<Value, AllocError>
 fn heard_json(alloc: Global, number: u64) -> Result<Value, AllocError>
     ensures { IfOk result (λ v. view v ≡ reply_data (reply.Heard number)) }
 {
-    json!(in alloc; {"number": large_json(alloc, number)?, "reply": "heard"})
+    let mut map = Map::new(alloc);
+    put_large(&mut map, alloc, "number", number)?;
+    put_text(&mut map, alloc, "reply", "heard")?;
+    Ok(Value::Object(map))
 }
 
 fn released_json(alloc: Global, number: u64, note: ReleaseNote) -> Result<Value, AllocError>
     ensures { IfOk result (λ v. view v ≡ released_data number note) }
 {
-    json!(in alloc; {
-        "life": note.life,
-        "note": number,
-        "number": large_json(alloc, note.number)?,
-        "reply": "released"
-    })
+    let mut map = Map::new(alloc);
+    put_number(&mut map, alloc, "life", note.life as u64)?;
+    put_number(&mut map, alloc, "note", number)?;
+    put_large(&mut map, alloc, "number", note.number)?;
+    put_text(&mut map, alloc, "reply", "released")?;
+    Ok(Value::Object(map))
 }
 
 fn holding_json(alloc: Global, number: u64, handle: KeyHandle) -> Result<Value, AllocError>
     ensures { IfOk result (λ v. view v ≡ holding_data number handle) }
 {
-    json!(in alloc; {
-        "handle": number,
-        "life": handle.life,
-        "position": large_json(alloc, handle.position)?,
-        "reply": "handle"
-    })
+    let mut map = Map::new(alloc);
+    put_number(&mut map, alloc, "handle", number)?;
+    put_number(&mut map, alloc, "life", handle.life as u64)?;
+    put_large(&mut map, alloc, "position", handle.position)?;
+    put_text(&mut map, alloc, "reply", "handle")?;
+    Ok(Value::Object(map))
 }
 
 fn recorded_json(alloc: Global, total: u64) -> Result<Value, AllocError>
@@ -196,7 +238,11 @@ fn gathered_json(alloc: Global, loads: &[u64], totals: &[u64]) -> Result<Value, 
 {
     let loads = numbers_json(alloc, loads)?;
     let totals = numbers_json(alloc, totals)?;
-    json!(in alloc; {"loads": loads, "reply": "loads", "totals": totals})
+    let mut map = Map::new(alloc);
+    put(&mut map, alloc, "loads", loads)?;
+    put_text(&mut map, alloc, "reply", "loads")?;
+    put(&mut map, alloc, "totals", totals)?;
+    Ok(Value::Object(map))
 }
 
 fn next_json(alloc: Global, action: Action) -> Result<Value, AllocError>
