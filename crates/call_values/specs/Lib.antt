@@ -1,0 +1,5 @@
+pub mod Told
+pub mod Calls
+pub mod Words
+pub mod Sent
+pub mod Steps
