@@ -1,3 +1,3 @@
 pub mod Calls
-pub mod Told
+pub mod CallerReplies
 pub mod Steps

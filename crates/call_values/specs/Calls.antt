@@ -24,7 +24,7 @@ use Rattle.log_line.specs.declared.line.TaskSample.{TaskSample}
 use Rattle.log_line.specs.declared.restored.KeptNumbers.{KeptNumbers}
 use Rattle.reply_values.specs.Values.{large_data}
 
--- a call that has nothing more than its name
+-- a call, or a step, that has nothing more than its name
 abbrev pub lone_data : List ℕ → Data
 lone_data name = object_data ((codes "do", string name) ∷ [])
 

@@ -14,15 +14,11 @@ use Rattle.wire.specs.Assignments.{slice_data}
 use Rattle.wire.specs.Objects.{list_data, number_data, object_data}
 use Rattle.world.specs.declared.step.Step.{Step}
 use Rattle.world.specs.declared.step.Step.TheVariants.{Check, Commit, Forget, Free, Grant, Hear, Hold, Learn, Look, Lose, Phase, Propose, Release, Renew, Rows, Serve, Start, Take}
-use Rattle.call_values.specs.Calls.{call_data}
+use Rattle.call_values.specs.Calls.{call_data, lone_data}
 use Rattle.reply_values.specs.Values.{large_data}
 use Rattle.call_values.specs.Sent.{with_sent}
 use Rattle.call_values.specs.declared.sent.Sent.{Sent}
 use Rattle.call_values.specs.Words.{step_word}
-
--- a step that has nothing more than its name
-abbrev pub lone_data : List ℕ → Data
-lone_data name = object_data ((codes "do", string name) ∷ [])
 
 -- a step of a task that a log has in the same form
 abbrev pub logged_data : ℕ → SliceletCall → Data

@@ -31,8 +31,8 @@ fn assignment_slices_json(alloc: Global, assignment: &Assignment) -> Result<Valu
     whole["slices"].clone()
 }
 
-// Writes a call that has nothing but its name.
-fn lone_json(alloc: Global, name: &str) -> Result<Value, AllocError>
+/// Writes a call, or a step, that has nothing but its name.
+pub fn lone_json(alloc: Global, name: &str) -> Result<Value, AllocError>
     ensures { IfOk result (λ v. view v ≡ lone_data name.now) }
 {
     json!(in alloc; {"do": name})

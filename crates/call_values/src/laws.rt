@@ -14,7 +14,7 @@ pub fn call_law(call: &LoggedCall)
 {}
 
 /// States that the value of a reply has no fraction, so that its text is the compact one.
-#[tactic(auto, using(crate::proofs::Told::told_whole))]
+#[tactic(auto, using(crate::proofs::CallerReplies::told_whole))]
 pub fn told_law(told: &CallerReply)
     ensures { has_float (told_data told.now) ≡ false }
 {}

@@ -4,9 +4,9 @@ ghost use Rattle.std.specs.Prelude.{◌≡◌, IfOk, false};
 ghost use Rattle.serde_json.specs.View.{view};
 ghost use Rattle.serde_json.specs.Written.{has_float};
 ghost use Rattle.world.specs.declared.step.Step.TheVariants as step;
-ghost use Rattle.call_values.specs.Steps.{alone_data, asked_data, assigner_data, delivery_data, key_text, logged_data, lone_data, proposed_data, step_data};
+ghost use Rattle.call_values.specs.Steps.{alone_data, asked_data, assigner_data, delivery_data, key_text, logged_data, proposed_data, step_data};
 
-use crate::call::call_json;
+use crate::call::{call_json, lone_json};
 use crate::sent::{Sent, with_sent};
 use crate::words::step_word;
 use assignment::Slice;
@@ -15,17 +15,10 @@ use grants::SliceletCall;
 use job_calls::ClusterCall;
 use log_line::LoggedCall;
 use reply_values::{put_large, put_number, put_text, slices_json};
-use serde_json::{Map, Value, json, put};
+use serde_json::{Map, Value, put};
 use slice_ranges::slice_key;
 use std::alloc::{AllocError, Global};
 use world::Step;
-
-// Writes a step that has nothing but its name.
-fn lone_json(alloc: Global, name: &str) -> Result<Value, AllocError>
-    ensures { IfOk result (λ v. view v ≡ lone_data name.now) }
-{
-    json!(in alloc; {"do": name})
-}
 
 // Writes a step of a task that a log has in the same form.
 fn logged_json(alloc: Global, task: u64, call: SliceletCall) -> Result<Value, AllocError>

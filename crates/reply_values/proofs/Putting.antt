@@ -2,10 +2,14 @@
 use Rattle.std.proofs.Common.{◌≡◌, ◌||◌, ℕ, Bool, List, Option, Some, None, codes, false, true, option_map, refl, Less, Equal, Greater, Ordering, arith}
 use Rattle.std.specs.Ordering.{match_ordering, nat_cmp}
 use Rattle.std.specs.Cmp.Lexicographic.{slice_cmp}
+use Rattle.std.specs.Prelude.{Result, Ok, Err, IfOk}
+use Rattle.std.specs.declared.alloc.AllocError.{AllocError}
+use Rattle.serde_json.specs.declared.value.Value.{Value}
 use Rattle.serde_json.specs.Data.{Data, Members, array, boolean, member, no_members, null, number, object, put, string}
+use Rattle.serde_json.specs.View.{view}
 use Rattle.serde_json.specs.Written.{has_float, members_have_float}
 use Rattle.reply_values.specs.declared.answered.Warnings.{Warnings}
-use Rattle.reply_values.specs.Answered.{IsWholeIf, answered_data, warned_data, with_member, with_member_if}
+use Rattle.reply_values.specs.Answered.{IsWholeIf, IsWholeWith, answered_data, warned_data, with_member, with_member_if}
 use Rattle.reply_values.specs.Values.{large_data}
 
 neither : (a b : Bool) → (a || b) ≡ false → (a ≡ false) × (b ≡ false)
@@ -45,7 +49,7 @@ warned_whole warnings d whole =
     with_number_whole (codes "not_owner") warnings.not_owner (with_member_if (codes "untimely") (option_map large_data warnings.untimely) d)
     (with_number_whole (codes "untimely") warnings.untimely d whole)
 
-pub answered_whole : (v call : Data) (ticket : Option ℕ) (reply reason : Option Data) (warnings : Warnings) → v ≡ answered_data call ticket reply reason warnings
+answered_whole : (v call : Data) (ticket : Option ℕ) (reply reason : Option Data) (warnings : Warnings) → v ≡ answered_data call ticket reply reason warnings
     → has_float call ≡ false → IsWholeIf reply → IsWholeIf reason → has_float v ≡ false
 answered_whole v call ticket reply reason warnings is call_whole reply_whole reason_whole =
     let ticketed = with_member_if (codes "ticket") (option_map large_data ticket) call in
@@ -54,3 +58,8 @@ answered_whole v call ticket reply reason warnings is call_whole reply_whole rea
     (with_value_whole (codes "reason") reason replied reason_whole
     (with_value_whole (codes "reply") reply ticketed reply_whole
     (with_number_whole (codes "ticket") ticket call call_whole))))
+
+pub answered_if_ok : (result : Result Value AllocError) (call : Data) (ticket : Option ℕ) (reply reason : Option Data) (warnings : Warnings)
+    → IfOk result (λ v. view v ≡ answered_data call ticket reply reason warnings) → IfOk result (λ v. IsWholeWith call reply reason (view v))
+answered_if_ok (Ok v) call ticket reply reason warnings is = answered_whole (view v) call ticket reply reason warnings is
+answered_if_ok (Err e) call ticket reply reason warnings is = is

@@ -76,9 +76,25 @@ fn warned_json(alloc: Global, warnings: Warnings, value: Value) -> Result<Value,
     with_number_if(alloc, "not_owner", warnings.not_owner, value)
 }
 
+fn with_answers(
+    alloc: Global,
+    call: Value,
+    ticket: Option<u64>,
+    reply: Option<Value>,
+    reason: Option<Value>,
+    warnings: Warnings,
+) -> Result<Value, AllocError>
+    ensures { IfOk result (λ v. view v ≡ answered_data (view call) ticket (option_map view reply) (option_map view reason) warnings) }
+{
+    let value = with_number_if(alloc, "ticket", ticket, call)?;
+    let value = with_value_if(alloc, "reply", reply, value)?;
+    let value = with_value_if(alloc, "reason", reason, value)?;
+    warned_json(alloc, warnings, value)
+}
+
 /// Adds to a call its ticket, its reply, what decides it, and what it is warned of, each if it is
 /// there. The only error is out of memory.
-#[tactic(auto, using(crate::proofs::Putting::answered_whole))]
+#[tactic(auto, using(crate::proofs::Putting::answered_if_ok))]
 pub fn answered_json(
     alloc: Global,
     call: Value,
@@ -90,8 +106,5 @@ pub fn answered_json(
     ensures value { IfOk result (λ v. view v ≡ answered_data (view call) ticket (option_map view reply) (option_map view reason) warnings) }
     ensures whole { IfOk result (λ v. IsWholeWith (view call) (option_map view reply) (option_map view reason) (view v)) }
 {
-    let value = with_number_if(alloc, "ticket", ticket, call)?;
-    let value = with_value_if(alloc, "reply", reply, value)?;
-    let value = with_value_if(alloc, "reason", reason, value)?;
-    warned_json(alloc, warnings, value)
+    with_answers(alloc, call, ticket, reply, reason, warnings)
 }
