@@ -16,9 +16,9 @@ use world::Step;
 fn readings_of(alloc: Global, steps: &[Step]) -> Result<Vec<Reading>, AllocError>
     ensures { IfOk result (λ readings. readings.items ≡ map reading steps.now) }
 {
-    let mut readings = Vec::with_capacity(alloc, steps.len())?;
+    let mut readings = Vec::new(alloc);
     for step in steps {
-        readings.push_reserved(step.reading());
+        readings.push(step.reading())?;
     }
     Ok(readings)
 }
