@@ -113,6 +113,9 @@ class OthersOf(Others):
     def told(self, job: str) -> Iterable[Seen]:
         return self._plane.peers.told(job)
 
+    def left_term(self, job: Job, incarnation: str) -> int:
+        return 0 if job.holder is None else self._plane.peers.left_term(job.holder, incarnation, job.name)
+
     def reads(self, own: int) -> int:
         return self._plane.peers.reads()
 
@@ -294,8 +297,9 @@ class Plane:
     async def _beat_once(self) -> None:
         heard = {name: self.forwarding.heard(followed.job) for name, followed in self.jobs.items()}
         rows = {name: followed.job.newest for name, followed in self.jobs.items()}
+        terms = {name: term for name, followed in self.jobs.items() if (term := followed.job.term_of_own())}
         try:
-            await self.peers.beat(heard, self.failures.of_plane(), rows=rows)
+            await self.peers.beat(heard, self.failures.of_plane(), rows=rows, terms=terms)
         except StoreFailed as error:
             log.info("the beat of this plane was not written: %s", error)
 

@@ -243,6 +243,11 @@ class Others:
         """Returns the versions of the row of a job that other planes know."""
         return ()
 
+    def left_term(self, job: "Job", incarnation: str) -> int:
+        """Returns the term of the job lease that the plane had for its assigner which holds a job by an incarnation,
+        and is gone; 0 if none is known."""
+        return 0
+
     def reads(self, own: int) -> int:
         """Returns the newest form of a row that all planes read which beat, this one up to its own."""
         return own
@@ -705,9 +710,14 @@ class Job:
         start, table = held.trail.told(), held.table
         if start is None:
             return None
-        term = self.own_term if self.term is not None and self.term["number"] == self.own_term else 0
-        known = self.grace, held.unknown, held.coming, term
+        known = self.grace, held.unknown, held.coming, self.term_of_own()
         return Handed(held.version, held.holder, start, table.kept(), rows_of(table), *known)
+
+    def term_of_own(self) -> int:
+        """Returns the last term of the job lease, if this plane holds the job and its assigner has that term, else
+        0."""
+        is_own = self._held is not None and self.term is not None and self.term["number"] == self.own_term
+        return self.own_term if is_own else 0
 
     def keep(self) -> None:
         """Takes back that the job was given away."""
@@ -726,8 +736,9 @@ class Job:
         version, holder, line = stored.version, stored.holder, None
         if row is not None:
             await clock.wait()
+            left = self._left_term(stored)
             version, line = await self._write_restore(stored, row, rights)
-            holder = self.settings.incarnation
+            holder, self.own_term = self.settings.incarnation, left or self.own_term
         elif rights.is_changed:  # the keys of lives follow from it
             version = await self._write((version, holder), stored.kept, None, rights)
             holder = self.settings.incarnation
@@ -736,6 +747,13 @@ class Job:
         table = self._restored(stored)
         trail = Trail(Start(stored.kept)) if self.settings.shared else None
         return Held(table, clock, version, stored.kept, last, last, last, line, holder, rights, unknown, trail=trail)
+
+    def _left_term(self, stored: Stored) -> int:
+        """Returns the last term of the job lease, if the plane that wrote the row is gone and its assigner had that
+        term, else 0. The assigner of this plane goes on with it: one of that plane can do no call any more, as each
+        is stored in place of the version that it read."""
+        left, last = self._others.left_term(self, stored.holder), term_in(stored.kept)
+        return left if last is not None and last["number"] == left else 0
 
     def _taken(self, stored: Stored) -> Table | None:
         """Returns the table that another plane told with its rows, if it is that of what is stored."""

@@ -37,11 +37,13 @@ class Beat(NamedTuple):
     has_ended: bool = False
     rows: Mapping[str, Seen] = MappingProxyType({})  # by job, the newest version of its row that the plane knows
     reads: int = ROWS_BEFORE  # the newest form of a row that it reads
+    terms: Mapping[str, int] = MappingProxyType({})  # by job that it holds, the last term if its own assigner has it
 
     def text(self) -> str:
         return json.dumps({
             "version": VERSION, **self._asdict(), "heard": {job: list(it) for job, it in self.heard.items()},
             "failed": sorted(self.failed), "rows": {job: list(it) for job, it in self.rows.items()},
+            "terms": dict(self.terms),
         })
 
     @classmethod
@@ -54,7 +56,8 @@ class Beat(NamedTuple):
             rows = {str(job): Seen(int(version), str(mark)) for job, (version, mark) in given.get("rows", {}).items()}
             failed, has_ended = frozenset(map(str, given["failed"])), bool(given["has_ended"])
             reads = int(given.get("reads", ROWS_BEFORE))
-            return cls(*texts, int(given["number"]), heard, failed, has_ended, rows, reads)
+            terms = {str(job): int(term) for job, term in given.get("terms", {}).items()}
+            return cls(*texts, int(given["number"]), heard, failed, has_ended, rows, reads, terms)
         except (LookupError, TypeError, AttributeError, ValueError) as error:
             raise ValueError(f"the beat of a plane cannot be read: {error!r}") from error
 
@@ -93,11 +96,12 @@ class Peers:
 
     async def beat(
         self, heard: Mapping[str, Heard], failed: frozenset[str], has_ended: bool = False,
-        rows: Mapping[str, Seen] = MappingProxyType({}),
+        rows: Mapping[str, Seen] = MappingProxyType({}), terms: Mapping[str, int] = MappingProxyType({}),
     ) -> None:
         """Writes the beat of this plane, and reads those of the others. Raises StoreFailed."""
         self._number += 1
-        mine = Beat(self.incarnation, self.address, self._number, heard, failed, has_ended, rows, self._reads)
+        given = self.incarnation, self.address, self._number, heard, failed, has_ended, rows, self._reads, terms
+        mine = Beat(*given)
         found = await self._store.beat(self.process, mine.text())
         if self.is_cut_off():
             self.steady_since = self._now()
@@ -145,6 +149,14 @@ class Peers:
         """Whether a plane that was known has ended, or stood still for so long that its jobs are to be taken."""
         beat = self.known.get(process)
         return beat is not None and (beat.has_ended or self._still[process] >= PART)
+
+    def left_term(self, process: int, incarnation: str, job: str) -> int:
+        """Returns the term of the job lease of a job that a plane which is gone had for its assigner, as it said
+        last; 0 if it said none, or another start of it did."""
+        beat = self.of(process)
+        if beat is None or not self.is_gone(process) or beat.incarnation != incarnation:
+            return 0
+        return beat.terms.get(job, 0)
 
     def others(self) -> list[int]:
         """Returns the planes that are not gone, without this one."""

@@ -410,7 +410,10 @@ def test_each_test_that_the_manual_names() -> None:
     """The tables of who trusts whom, and of what who has broken into a place can do."""
     page = (TOP / "docs/SECURITY.md").read_text(encoding="utf-8")
     named = re.findall(r"`([a-z_]+): ([a-z0-9_]+)`", page)
-    assert len(named) >= 25
+    assert len(named) >= 40
+    rows = [line for line in page.split("\n## Who trusts whom\n")[1].splitlines() if line.startswith("| ")]
+    without = [row for row in rows if not row.endswith("Tried by |") and "_" not in row.split(" | ")[-1]]
+    assert len(rows) >= 20 and not without
     for file, name in named:
         text = (TOP / f"python/tests/test_{file}.py").read_text(encoding="utf-8")
         assert f"def test_{name}(" in text, (file, name)

@@ -175,8 +175,8 @@ async def test_a_process_that_was_frozen_ends_once_another_one_is_let_in(
 async def test_what_has_ended_is_not_given_up(
     file: Store, tmp_path: Path, monkeypatch: pytest.MonkeyPatch
 ) -> None:
-    """A process stands still while it gives up its leases, until another one is let in: the log of that one tells what
-    the task does from then on."""
+    """A process stands still while it gives up its leases, until another one is let in: the log of that one tells
+    what the task does from then on."""
     async with owned(file, tmp_path, POLICY) as (_, caller):
         first, notes = task_of(caller.url, tmp_path / "a", LATER), list[bytes]()
         await first.start()

@@ -4,6 +4,7 @@ import asyncio
 import json
 import re
 import ssl
+import subprocess
 from collections.abc import AsyncIterator
 from contextlib import asynccontextmanager, suppress
 from pathlib import Path
@@ -20,10 +21,14 @@ from hourstable.answers import KEY  # noqa: E402
 from hourstable.callers import Caller as Known  # noqa: E402
 from hourstable.callers import Callers, Role  # noqa: E402
 from hourstable.callers import Known as KnownBy  # noqa: E402
+from hourstable.library import Policy, Refused, Slicelet, Table  # noqa: E402
 from hourstable.rights import Rights, Seat  # noqa: E402
 from hourstable.service import ControlPlane, Options  # noqa: E402
 from hourstable.store import Holding, Store  # noqa: E402
+from hourstable.task import Denied, Task  # noqa: E402
+from hourstable.waiting import within  # noqa: E402
 from serving import HALF, POLICY, Answer, Caller, assignment, running  # noqa: E402
+from waits import until  # noqa: E402
 
 ADMIN, ONE, ASSIGNER = "the-secret-of-an-admin", "the-secret-of-task-1", "the-secret-of-an-assigner"
 CALLERS = Callers([
@@ -42,10 +47,11 @@ def by(secret: str) -> dict[str, str]:
 
 
 class Between:
-    """Somebody between a caller and a plane, who has all bytes and may change one of those to the plane."""
+    """Somebody between a caller and a plane, who has all bytes, may change one of those to the plane, and may pass
+    nothing on."""
 
     def __init__(self, port: int) -> None:
-        self.port, self.seen, self.changes = port, b"", False
+        self.port, self.seen, self.changes, self.drops = port, b"", False, False
         self._plane = port
 
     async def serve(self, reader: asyncio.StreamReader, writer: asyncio.StreamWriter) -> None:
@@ -57,6 +63,8 @@ class Between:
         try:
             while some := await reader.read(1 << 16):
                 self.seen += some
+                if self.drops:
+                    continue
                 if to_plane and self.changes:
                     some = some[:-1] + bytes([some[-1] ^ 1])
                 writer.write(some)
@@ -101,6 +109,96 @@ async def test_with_tls_whoever_is_between_reads_and_changes_nothing(tmp_path: P
                 await caller.ask("PUT", "/jobs/cart", POLICY, by(ADMIN))
             middle.changes = False
             assert (await caller.ask("GET", "/jobs", None, by(ADMIN))).json == {"jobs": ["shop"]}
+
+
+@asynccontextmanager
+async def serving_all(folder: Path, callers: Callers, tls: ssl.SSLContext | None) -> AsyncIterator[int]:
+    """The port of a plane at which task 1 owns all keys."""
+    options = Options(f"sqlite:{folder}/jobs.sqlite", folder / "logs", assigner=0, callers=callers, tls=tls)
+    trusting = aiohttp.TCPConnector(ssl=False)
+    async with ControlPlane(options) as plane:
+        async with aiohttp.ClientSession(headers=by(ADMIN), connector=trusting) as session:
+            caller = Caller(f"http{'s' if tls else ''}://127.0.0.1:{plane.port}", session)
+            assert (await caller.create()).status == 201
+            await caller.change(await caller.take(), 1, [[0, [1]]])
+            yield plane.port
+
+
+def shows(folder: Path, name: str) -> ssl.SSLContext:
+    """What a plane shows: a certificate of a folder."""
+    made = ssl.SSLContext(ssl.PROTOCOL_TLS_SERVER)
+    made.load_cert_chain(folder / f"{name}.pem", folder / f"{name}.key")
+    return made
+
+
+def knows(authority: Path) -> ssl.SSLContext:
+    return ssl.create_default_context(cafile=str(authority))
+
+
+def may_serve(task: Task) -> bool:
+    try:
+        task.ask("key")
+        return True
+    except Denied:
+        return False
+
+
+async def test_with_tls_whoever_is_between_drops_calls_and_leases_end(tmp_path: Path, certificates: Path) -> None:
+    """The task denies its keys then, and serves them again once its calls come through."""
+    async with serving_all(tmp_path, CALLERS, shows(certificates, "plane")) as port, between(port) as middle:
+        url, tls = f"https://127.0.0.1:{middle.port}", knows(certificates / "ca.pem")
+        async with Task(url, "shop", 1, logs=None, secret=ONE, tls=tls, timeout=0.5) as task:
+            await until(lambda: may_serve(task))
+            middle.drops = True
+            await until(lambda: not may_serve(task) and task.state.startswith("cut off"))
+            middle.drops = False
+            await until(lambda: may_serve(task))
+        assert middle.seen and ONE.encode() not in middle.seen
+
+
+async def test_without_tls_whoever_answers_for_a_plane_is_believed(tmp_path: Path) -> None:
+    async with serving_all(tmp_path, Callers(), None) as port, between(port) as middle:
+        url = f"http://127.0.0.1:{middle.port}"
+        async with Task(url, "shop", 1, logs=None, secret=ONE, timeout=0.5) as task:
+            await until(lambda: may_serve(task))
+        assert ONE.encode() in middle.seen
+
+
+async def test_with_tls_nobody_answers_for_a_plane(tmp_path: Path, certificates: Path) -> None:
+    """Who has no certificate of the authority that a task knows is told nothing by it, and not heard."""
+    words = ["-keyout", "own.key", "-out", "own.pem", "-subj", "/CN=plane", "-addext", "subjectAltName=IP:127.0.0.1"]
+    made = ["openssl", "req", "-x509", "-newkey", "rsa:2048", "-nodes", "-days", "2", *words]
+    subprocess.run(made, cwd=tmp_path, check=True, capture_output=True)
+    async with serving_all(tmp_path, Callers(), shows(tmp_path, "own")) as port, between(port) as middle:
+        url = f"https://127.0.0.1:{middle.port}"
+        for tls, is_believed in ((knows(certificates / "ca.pem"), False), (knows(tmp_path / "own.pem"), True)):
+            task = Task(url, "shop", 1, logs=None, secret=ONE, tls=tls, timeout=0.5)
+            try:
+                with suppress(TimeoutError):
+                    await within(2.0, task.start())
+                if is_believed:
+                    await until(lambda: may_serve(task))  # noqa: B023
+                assert may_serve(task) == is_believed and middle.seen
+            finally:
+                await task.stop()
+
+
+async def test_who_is_turned_away_moves_no_ticket(file: Store, tmp_path: Path) -> None:
+    """A caller with a secret does: a plane follows the tickets of the calls that it makes."""
+    async with running(file, tmp_path / "logs", callers=CALLERS) as (_, caller):
+
+        async def is_followed(path: str, secret: str, status: int) -> bool:
+            """Whether the plane follows a ticket of two days ahead, with which a call is made."""
+            now = int((await caller.ask("GET", "/healthz")).headers["Hourstable-Ticket"])
+            ahead = now + (2 * 86_400_000 << 16)
+            told = await caller.ask("GET", path, None, {**by(secret), "Hourstable-Ticket": str(ahead)})
+            assert told.status == status
+            return int((await caller.ask("GET", "/healthz")).headers["Hourstable-Ticket"]) > ahead
+
+        assert not await is_followed("/jobs", "a-secret-of-nobody", 401)
+        assert not await is_followed("/healthz", "a-secret-of-nobody", 200)
+        assert not await is_followed("/readyz", ADMIN, 200)
+        assert await is_followed("/jobs", ADMIN, 200)
 
 
 # Hosts of callers. -------------------------------------------------------------------------------
@@ -179,6 +277,29 @@ async def test_an_assigner_moves_keys_and_leases_protect_who_serves_them(file: S
         assert (await made.ask(ASSIGNER, "commit", {"term": term})).json == {"generation": 2}
 
 
+def test_a_task_serves_keys_that_are_not_its_own_by_messages_without_a_signature() -> None:
+    """Who has a task's host forges a grant of all keys, which the library takes from whoever delivers it; a forged
+    note frees the record of another task's lease, so the table lets a change pass that this lease holds up."""
+    policy = Policy(1, 1, *(LONG[name] for name in ("skew", "guard", "bridge", "job", "numbers")))
+    with Table("shop", policy) as table, Slicelet("shop", 1) as forger, Slicelet("shop", 2) as owner:
+        term = table.take(1, 0).number
+        table.propose(term, assignment(1, [[0, [2]]]), 0)
+        table.commit(term, 0)
+        granted = table.grant(2, 1, 0)
+        owner.start(1, 0)
+        owner.hear(granted, 0)
+        forger.start(1, 0)
+        grant = json.loads(granted)
+        grant["value"]["task"] = 1
+        forger.hear(json.dumps(grant).encode(), 0)
+        assert forger.serve(b"hello", 1).generation == owner.serve(b"hello", 1).generation == 1
+        table.propose(term, assignment(2, [[0, [3]]]), 1)
+        with pytest.raises(Refused, match="held"):
+            table.commit(term, 1)
+        assert table.free(note_of({"task": 2, "life": 1}, grant["value"]["number"]), 1) == 1
+        assert table.commit(term, 1) == 2 and owner.serve(b"hello", 1)
+
+
 # The store. --------------------------------------------------------------------------------------
 
 
@@ -208,3 +329,36 @@ async def test_a_plane_takes_from_its_store_who_may_act(file: Store, tmp_path: P
         for _ in range(2):  # the first write of the plane meets what was written
             told = await made.ask(ONE, "grant", asked)
         assert (told.json["refused"], told.json["admitted"]) == ("overtaken", asked["life"] + 7)
+
+
+class Forgetful:
+    """A store that says that it wrote a row, and has lost it."""
+
+    def __init__(self, store: Store) -> None:
+        self._store, self.is_losing = store, False
+
+    async def swap(self, job: str, version: int, *row: Any) -> int:
+        return version + 1 if self.is_losing else await self._store.swap(job, version, *row)
+
+    def __getattr__(self, name: str) -> Any:
+        return getattr(self._store, name)
+
+
+@pytest.mark.parametrize("is_losing", [False, True])
+async def test_a_plane_takes_from_its_store_that_no_write_is_lost(
+    is_losing: bool, file: Store, tmp_path: Path
+) -> None:
+    """Else the next plane knows of no lease, and gives the keys to another task meanwhile."""
+    store: Any = Forgetful(file)
+    async with running(store, tmp_path / "one/logs", ahead=(0, 0)) as (_, caller):
+        assert (await caller.create(LONG)).status == 201
+        term = await caller.take()
+        await caller.change(term, 1, [[0, [1]]])
+        store.is_losing = is_losing
+        assert (await caller.grant(1)).status == 200
+        store.is_losing = True  # as after a crash, the plane stores nothing at its end
+    async with running(file, tmp_path / "two/logs") as (_, caller):
+        proposed = await caller.post(f"propose?term={term}", assignment(2, [[0, [2]]]))
+        assert proposed.status == 200
+        told = await caller.post("commit", {"term": term})
+        assert (told.status, told.json.get("refused")) == ((200, None) if is_losing else (409, "grace"))

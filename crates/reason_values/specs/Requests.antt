@@ -1,5 +1,5 @@
 -- Why a task may serve a key, or may not.
-use Rattle.std.specs.Prelude.{ℕ, List, [], ◌∷◌, ◌++◌, codes, Option, Some, None, option_map}
+use Rattle.std.specs.Prelude.{List, [], ◌∷◌, ◌++◌, codes, Option, Some, None, option_map}
 use Rattle.serde_json.specs.Data.{Data, boolean}
 use Rattle.wire.specs.LeaseMembers.{kind_data}
 use Rattle.wire.specs.Objects.{list_data, number_data, object_data}
