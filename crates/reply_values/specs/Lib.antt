@@ -1,0 +1,4 @@
+pub mod Values
+pub mod Refusals
+pub mod Replies
+pub mod Answered
