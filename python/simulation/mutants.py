@@ -94,7 +94,7 @@ MUTANTS = (
     ), seeds="2"),
     Mutant("last-not-kept", "tickets.py", (
         ("                self._words[LAST] = place\n", "                pass\n"),
-    ), seeds="187"),
+    ), seeds="563"),
     Mutant("boot-not-compared", "tickets.py", (
         ("        if boot and boot == self.fields.boot and", "        if boot and"),
     ), seeds="163"),
