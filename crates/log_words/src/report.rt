@@ -4,13 +4,12 @@ ghost use Rattle.std.specs.Prelude.{◌≡◌, IfOk, Some, map, slice_get, strin
 ghost use Rattle.log_words.specs.Reports.{IsOtherOf, IsReport, IsWholeReport, cause_text, clocks_text, cut_text, double_text, ended_reason, ended_text, wrong_text, held_reason, hint_text, later_text, lease_text, missing_text, name_text, one_text, reason_text, standing_at, table_read_text, start_text, ticket_of, told_text};
 
 use crate::cause_text::CauseText;
-use crate::counts_text::{calls_line, coarse_line, silent_line};
+use crate::counts_text::{calls_text, coarse_text, silent_text};
 use faults::Escaped;
 use job_calls::{Job, Reading};
 use lease_rule::{Ground, Verdict};
 use log_causes::{
     Cause, Finding, Hints, MOST_WRONG_REPLIES, MissingGrants, MissingOpen, WrongReply,
-    coarse_count, counts_of, silent_tasks,
 };
 use log_line::{CallerReply, LogEntry, PlainLine};
 use log_run::{HeldLeases, Late};
@@ -427,11 +426,9 @@ fn one_text(alloc: Global, job: Job, log: NamedEntries, run: Run) -> Result<Stri
         ≡ one_text job (map (λ n. n.now) log.entry.names.now) log.entry.entries.now run.steps run.late) }
 {
     let steps = run.steps;
-    let counts = counts_of(alloc, job, log.entries)?;
-    let calls = calls_line(alloc, &counts)?;
-    let coarse = coarse_line(alloc, coarse_count(log.entries))?;
-    let silent = silent_tasks(alloc, job, log.entries)?;
-    let silent = silent_line(alloc, silent.as_slice())?;
+    let calls = calls_text(alloc, job, log.entries)?;
+    let coarse = coarse_text(alloc, log.entries)?;
+    let silent = silent_text(alloc, job, log.entries)?;
     let clocks = clocks_text(alloc, job.policy().skew(), log, run.late)?;
     format!(in alloc; "audit one\nsteps {steps}\n{calls}{coarse}{silent}{clocks}")
 }
