@@ -5,12 +5,12 @@ use Rattle.std.specs.List.Sorted.{IsPermutation, IsStableByKey}
 use Rattle.job_calls.specs.Jobs.{Job}
 use Rattle.cluster.specs.continued.Jobs.{from_start}
 use Rattle.log_line.specs.declared.entry.LogEntry.{LogEntry}
-use Rattle.log_words.specs.declared.finding.Finding.{Finding}
-use Rattle.log_words.specs.declared.finding.Finding.TheVariants.{One, Double, Other}
-use Rattle.log_words.specs.declared.hint.Hint.{Hint}
+use Rattle.log_causes.specs.declared.finding.Finding.{Finding}
+use Rattle.log_causes.specs.declared.finding.Finding.TheVariants.{One, Double, Other}
+use Rattle.log_causes.specs.declared.hints.Hints.{Hints}
 use Rattle.log_line.specs.declared.log.Log.{Log}
-use Rattle.log_words.specs.Audited.{IsFound, is_one}
-use Rattle.log_words.specs.Hints.{IsHinted}
+use Rattle.log_causes.specs.Audited.{IsFound, is_one}
+use Rattle.log_causes.specs.Hints.{AreHints}
 use Rattle.log_words.specs.Reports.{IsWholeReport}
 use Rattle.log_view.specs.declared.window.View.{View}
 use Rattle.log_view.specs.declared.window.Window.{Window}
@@ -45,9 +45,9 @@ pub record IsPictureOf (log : Log) (shot : Shot) (with_clerks : Bool) (finding :
   pub found : IsFound (from_start log.job) shot.entries finding
   pub one : picture.is_one ≡ is_one finding
   pub left_out : picture.torn.items ≡ log.torn.items
-  pub hint : Option Hint
-  pub hinted : IsHinted (from_start log.job) shot.entries finding hint
-  pub reported : IsWholeReport log.job shot.names shot.entries finding hint [] (string_bytes picture.report)
+  pub hints : Hints
+  pub hinted : AreHints (from_start log.job) shot.entries finding hints
+  pub reported : IsWholeReport log.job shot.names shot.entries finding hints [] (string_bytes picture.report)
   pub shows : ShowsRun shot log.job (take (end_of shot.entries finding) shot.entries) with_clerks (note_of finding (string_bytes picture.report))
       (string_bytes picture.text)
 

@@ -3,8 +3,8 @@ use Rattle.std.specs.Prelude.{ℕ, Bool, ◌&&◌, nat_le, nat_lt, min, max, Lis
 use Rattle.job_calls.specs.declared.timing.Reading.{Reading}
 use Rattle.job_calls.specs.declared.timing.Reading.TheVariants.{TableClock, TaskClock, NoClock}
 use Rattle.log_line.specs.declared.entry.LogEntry.{LogEntry}
-use Rattle.log_words.specs.declared.finding.Finding.{Finding}
-use Rattle.log_words.specs.declared.finding.Finding.TheVariants.{One, Double, Other}
+use Rattle.log_causes.specs.declared.finding.Finding.{Finding}
+use Rattle.log_causes.specs.declared.finding.Finding.TheVariants.{One, Double, Other}
 use Rattle.log_line.specs.Calls.{reading_in}
 use Rattle.log_view.specs.declared.window.Window.{Window}
 use Rattle.timeline.specs.declared.stretch.Stretch.{Stretch}

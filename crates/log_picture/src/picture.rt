@@ -1,7 +1,7 @@
 //! Logs as pictures, with the reports of their audits.
 
 ghost use Rattle.std.specs.Prelude.{◌≡◌, [], IfOk, MatchOption, map, reverse, string_bytes};
-ghost use Rattle.log_words.specs.Audited.{is_one};
+ghost use Rattle.log_causes.specs.Audited.{is_one};
 ghost use Rattle.timeline.specs.Actors.{AreLanes};
 ghost use Rattle.log_picture.specs.Colours.{AreColoured};
 ghost use Rattle.log_picture.specs.Pictures.{HasNoWindow, IsLogPicture, ShowsRun, note_of};
@@ -13,10 +13,11 @@ use crate::scene::{Scene, is_in_window, played_of};
 use crate::span::span_of;
 use crate::story::{Told, told_of};
 use job_calls::Job;
+use log_causes::{Finding, audit_calls, hints_for};
 use log_line::{LinePosition, Log, Progress};
 use log_run::Start;
 use log_view::{View, is_shown, window_of};
-use log_words::{Finding, NamedEntries, audit_calls, hint_for, report_of};
+use log_words::{NamedEntries, report_of};
 use machines::Listed;
 use slice_ranges::SliceKey;
 use std::alloc::{AllocError, Global};
@@ -165,8 +166,8 @@ pub fn log_svg<P: Progress>(
         return Ok(None);
     };
     let named = NamedEntries { names, entries };
-    let hint = hint_for(alloc, &start, entries, &finding)?;
-    let report = report_of(alloc, job, named, &finding, hint, &[])?;
+    let hints = hints_for(alloc, &start, entries, &finding)?;
+    let report = report_of(alloc, job, named, &finding, hints, &[])?;
     let note = note_of(alloc, &finding, report.as_str())?;
     let scene = Scene {
         log: named,

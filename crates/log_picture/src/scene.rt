@@ -3,9 +3,10 @@
 ghost use Rattle.std.specs.Prelude.{◌≡◌, take};
 ghost use Rattle.log_picture.specs.Shots.{end_of, is_in_window};
 
+use log_causes::Finding;
 use log_line::LogEntry;
 use log_view::Window;
-use log_words::{Finding, NamedEntries};
+use log_words::NamedEntries;
 use slice_ranges::SliceKey;
 
 /// The calls of a log that are drawn, and the calls before them.

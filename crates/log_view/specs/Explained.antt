@@ -4,12 +4,12 @@ use Rattle.std.specs.Ordering.{nat_cmp}
 use Rattle.std.specs.List.Sorted.{IsPermutation, IsStableByKey}
 use Rattle.cluster.specs.continued.Jobs.{from_start}
 use Rattle.log_line.specs.declared.entry.LogEntry.{LogEntry}
-use Rattle.log_words.specs.declared.finding.Finding.{Finding}
-use Rattle.log_words.specs.declared.finding.Finding.TheVariants.{One, Double, Other}
-use Rattle.log_words.specs.declared.hint.Hint.{Hint}
+use Rattle.log_causes.specs.declared.finding.Finding.{Finding}
+use Rattle.log_causes.specs.declared.finding.Finding.TheVariants.{One, Double, Other}
+use Rattle.log_causes.specs.declared.hints.Hints.{Hints}
 use Rattle.log_line.specs.declared.log.Log.{Log}
-use Rattle.log_words.specs.Audited.{IsFound, is_one}
-use Rattle.log_words.specs.Hints.{IsHinted}
+use Rattle.log_causes.specs.Audited.{IsFound, is_one}
+use Rattle.log_causes.specs.Hints.{AreHints}
 use Rattle.log_words.specs.Reports.{IsWholeReport}
 use Rattle.log_view.specs.declared.explaining.ExplainedLog.{ExplainedLog}
 use Rattle.log_view.specs.declared.window.View.{View}
@@ -33,10 +33,10 @@ pub record IsExplained (names : List (List ℕ)) (log : Log) (ordered : List Log
   pub lines : List ℕ
   pub shown : AreLines log.job names ordered
       (shown_places key ordered window.from (min window.to (played finding (length ordered)))) lines
-  pub hint : Option Hint
-  pub hinted : IsHinted (from_start log.job) ordered finding hint
+  pub hints : Hints
+  pub hinted : AreHints (from_start log.job) ordered finding hints
   pub report : List ℕ
-  pub told : IsWholeReport log.job names ordered finding hint [] report
+  pub told : IsWholeReport log.job names ordered finding hints [] report
   pub text : string_bytes explained.text ≡ lines ++ report
   pub left_out : explained.torn.items ≡ log.torn.items
 

@@ -1,14 +1,15 @@
 //! The calls of a log with the machines' replies and the reasons for them.
 
 ghost use Rattle.std.specs.Prelude.{◌≡◌, ◌≤◌, IfOk, length, map};
-ghost use Rattle.log_words.specs.Audited.{IsFound, is_one};
+ghost use Rattle.log_causes.specs.Audited.{IsFound, is_one};
 ghost use Rattle.log_view.specs.Explained.{IsExplainedLog, played};
 
 use crate::lines::{Part, lines_of};
 use crate::window::{View, window_of};
+use log_causes::{Finding, audit_calls, hints_for};
 use log_line::{LinePosition, Log, Progress};
 use log_run::Start;
-use log_words::{Finding, NamedEntries, audit_calls, hint_for, report_of};
+use log_words::{NamedEntries, report_of};
 use std::alloc::{AllocError, Global};
 
 /// The calls of a log that a view shows, with their reasons, and the report of the audit.
@@ -73,8 +74,8 @@ pub fn explain_log<P: Progress>(
         key: view.key,
     };
     let mut text = lines_of(alloc, job, named, part)?;
-    let hint = hint_for(alloc, &start, entries, &finding)?;
-    let report = report_of(alloc, job, named, &finding, hint, &[])?;
+    let hints = hints_for(alloc, &start, entries, &finding)?;
+    let report = report_of(alloc, job, named, &finding, hints, &[])?;
     text.push_str(report.as_str())?;
     Ok(Some(ExplainedLog {
         is_one: is_one(&finding),

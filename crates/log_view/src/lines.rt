@@ -12,9 +12,10 @@ ghost use Rattle.log_view.specs.internals.Playing.{IsLineAfter, IsLineAt, IsPlay
 use crate::call_text::CallText;
 use crate::window::is_shown;
 use job_calls::Job;
+use log_causes::{WrongCall, cause_of};
 use log_line::{CallerReply, LogEntry, LoggedCall, PlainLine};
 use log_run::{HeldLeases, LogMachines, Start, held_by_asked, tell};
-use log_words::{CauseText, NamedEntries, Reason, Standing, WrongCall, cause_of};
+use log_words::{CauseText, NamedEntries, Reason, Standing};
 use slice_ranges::SliceKey;
 use std::alloc::{AllocError, Global};
 

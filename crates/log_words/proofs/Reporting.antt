@@ -3,8 +3,8 @@ use Rattle.std.proofs.Common.{◌≡◌, ◌∙◌, ℕ, List, ap}
 use Rattle.std.specs.Prelude.{Option, Some, None, Result, Ok, Err, IfOk}
 use Rattle.job_calls.specs.declared.timing.Reading.{Reading}
 use Rattle.log_line.specs.declared.told.CallerReply.{CallerReply}
-use Rattle.log_words.specs.declared.cause.Cause.{Cause}
-use Rattle.log_words.specs.declared.comparing.WrongReply.{WrongReply}
+use Rattle.log_causes.specs.declared.cause.Cause.{Cause}
+use Rattle.log_causes.specs.declared.comparing.WrongReply.{WrongReply}
 use Rattle.log_line.specs.declared.entry.LogEntry.{LogEntry}
 use Rattle.log_run.specs.declared.held.HeldLeases.{HeldLeases}
 use Rattle.log_line.specs.Calls.{reading_in}

@@ -7,21 +7,21 @@ use Rattle.job_calls.specs.declared.snapshot.ClusterSnapshot.{ClusterSnapshot}
 use Rattle.log_line.specs.declared.entry.LogEntry.{LogEntry}
 use Rattle.log_words.specs.declared.auditing.AuditOptions.{AuditOptions}
 use Rattle.log_words.specs.declared.auditing.LogReport.{LogReport}
-use Rattle.log_words.specs.declared.comparing.WrongReply.{WrongReply}
-use Rattle.log_words.specs.declared.finding.Finding.{Finding}
-use Rattle.log_words.specs.declared.hint.Hint.{Hint}
+use Rattle.log_causes.specs.declared.comparing.WrongReply.{WrongReply}
+use Rattle.log_causes.specs.declared.finding.Finding.{Finding}
+use Rattle.log_causes.specs.declared.hints.Hints.{Hints}
 use Rattle.log_line.specs.declared.log.Log.{Log}
-use Rattle.log_words.specs.Audited.{AreSent, IsFound, is_one, is_timely}
-use Rattle.log_words.specs.WrongReplies.{AreLater}
+use Rattle.log_causes.specs.Audited.{AreSent, IsFound, is_one, is_timely}
+use Rattle.log_causes.specs.WrongReplies.{AreLater}
 use Rattle.log_words.specs.DriftReports.{IsDriftTold}
 use Rattle.log_line.specs.Files.{IsLog, lines_from}
-use Rattle.log_words.specs.Hints.{IsHinted}
+use Rattle.log_causes.specs.Hints.{AreHints}
 use Rattle.log_words.specs.Reports.{IsWholeReport, unsent_text}
 use Rattle.log_run.specs.Starts.{BeginsAt}
 use Rattle.log_run.specs.States.{IsStateOf}
 
 -- the files say a log, but for the last lines at the places that the report has, which begins with its job, or goes on from a snapshot; this is found of
--- its calls in the order of their tickets, where equal tickets stay in the order of their lines, and the text reports it, with a hint if there is one,
+-- its calls in the order of their tickets, where equal tickets stay in the order of their lines, and the text reports it, with what the logs may lack,
 -- with the later wrong replies if all are wanted, with what the samples say of a drift, and with refusals that are not judged if it goes on from a
 -- snapshot; the report has the state after the calls if that is wanted and they are one run
 pub record IsAudited (job : Continued) (earlier : Option ClusterSnapshot) (names files : List (List ℕ)) (options : AuditOptions) (report : LogReport) : Type 0 where
@@ -36,12 +36,12 @@ pub record IsAudited (job : Continued) (earlier : Option ClusterSnapshot) (names
   pub found : IsFound job ordered finding
   pub one : report.is_one ≡ is_one finding
   pub timely : report.is_timely ≡ is_timely finding
-  pub hint : Option Hint
-  pub hinted : IsHinted job ordered finding hint
+  pub hints : Hints
+  pub hinted : AreHints job ordered finding hints
   pub later : List WrongReply
   pub more : AreLater job ordered options.all finding later
   pub lines : List ℕ
-  pub told : IsWholeReport log.job names ordered finding hint later lines
+  pub told : IsWholeReport log.job names ordered finding hints later lines
   pub drift : List ℕ
   pub samples : IsDriftTold options.drift names ordered finding report.keeps_drift drift
   pub text : string_bytes report.text ≡ lines ++ (drift ++ unsent_text (is_some earlier) (is_one finding) report.all_sent)

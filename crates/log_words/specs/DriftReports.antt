@@ -5,8 +5,8 @@ use Rattle.log_run.specs.declared.drift.ClockFault.{ClockFault}
 use Rattle.log_run.specs.declared.drift.ClockFault.TheVariants.{Back, SentAhead, Beyond}
 use Rattle.log_run.specs.declared.drift.DriftFault.{DriftFault}
 use Rattle.log_line.specs.declared.entry.LogEntry.{LogEntry}
-use Rattle.log_words.specs.declared.finding.Finding.{Finding}
-use Rattle.log_words.specs.declared.finding.Finding.TheVariants.{One}
+use Rattle.log_causes.specs.declared.finding.Finding.{Finding}
+use Rattle.log_causes.specs.declared.finding.Finding.TheVariants.{One}
 use Rattle.log_line.specs.declared.line.TaskSample.{TaskSample}
 use Rattle.log_run.specs.Drifts.{IsDriftFinding}
 use Rattle.log_words.specs.Reports.{standing_at}

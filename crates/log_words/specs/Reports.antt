@@ -1,5 +1,5 @@
 -- What is written of a log.
-use Rattle.std.specs.Prelude.{◌≡◌, ℕ, ◌-◌, ◌==◌, ◌&&◌, ◌||◌, not, nat_lt, is_some, Bool, List, [], ◌++◌, codes, decimal, length, Option, Some, None, slice_get, if◌then◌else◌}
+use Rattle.std.specs.Prelude.{◌≡◌, ℕ, ◌-◌, ◌==◌, ◌&&◌, ◌||◌, not, nat_lt, is_some, Bool, List, [], ◌∷◌, ◌++◌, codes, decimal, length, Option, Some, None, slice_get, if◌then◌else◌}
 use Rattle.std.specs.List.{flat_map}
 use Rattle.faults.specs.Quoted.{escaped}
 use Rattle.slicelet.specs.declared.heard.HeldLease.{HeldLease}
@@ -12,25 +12,27 @@ use Rattle.job_calls.specs.declared.timing.Reading.TheVariants.{TaskClock}
 use Rattle.log_line.specs.declared.told.CallerReply.{CallerReply}
 use Rattle.log_line.specs.declared.told.CallerReply.TheVariants.{Scripted}
 use Rattle.replies.specs.declared.reply.Reply.TheVariants as reply
-use Rattle.log_words.specs.declared.cause.Cause.{Cause}
-use Rattle.log_words.specs.declared.cause.Cause.TheVariants as because
-use Rattle.log_words.specs.declared.cause.Change.{Change}
-use Rattle.log_words.specs.declared.cause.Change.TheVariants as change
-use Rattle.log_words.specs.declared.cause.Member.{Member}
-use Rattle.log_words.specs.declared.cause.Member.TheVariants as member
+use Rattle.log_causes.specs.declared.cause.Cause.{Cause}
+use Rattle.log_causes.specs.declared.cause.Cause.TheVariants as because
+use Rattle.log_causes.specs.declared.cause.Change.{Change}
+use Rattle.log_causes.specs.declared.cause.Change.TheVariants as change
+use Rattle.log_causes.specs.declared.cause.Member.{Member}
+use Rattle.log_causes.specs.declared.cause.Member.TheVariants as member
+use Rattle.log_causes.specs.declared.cause.Unsent.TheVariants as unsent
 use Rattle.log_line.specs.declared.entry.LogEntry.{LogEntry}
-use Rattle.log_words.specs.declared.comparing.WrongReply.{WrongReply}
-use Rattle.log_words.specs.declared.comparing.TheConstants.{MOST_WRONG_REPLIES}
-use Rattle.log_words.specs.declared.finding.Finding.{Finding}
-use Rattle.log_words.specs.declared.finding.Finding.TheVariants.{One, Double, Other}
+use Rattle.log_causes.specs.declared.comparing.WrongReply.{WrongReply}
+use Rattle.log_causes.specs.declared.comparing.TheConstants.{MOST_WRONG_REPLIES}
+use Rattle.log_causes.specs.declared.finding.Finding.{Finding}
+use Rattle.log_causes.specs.declared.finding.Finding.TheVariants.{One, Double, Other}
 use Rattle.log_run.specs.declared.held.HeldLeases.{HeldLeases}
-use Rattle.log_words.specs.declared.hint.Hint.{Hint}
+use Rattle.log_causes.specs.declared.callers.CountedCalls.{CountedCalls}
+use Rattle.log_causes.specs.declared.hint.MissingOpen.{MissingOpen}
+use Rattle.log_causes.specs.declared.hints.Hints.{Hints}
 use Rattle.log_run.specs.declared.late.Late.{Late}
-use Rattle.log_words.specs.declared.missing.MissingGrants.{MissingGrants}
-use Rattle.log_words.specs.Callers.{calls_line, silent_line}
+use Rattle.log_causes.specs.declared.missing.MissingGrants.{MissingGrants}
+use Rattle.log_causes.specs.Callers.{clerk_counts, silent_tasks, table_count, task_counts}
 use Rattle.log_line.specs.Calls.{reading_in}
-use Rattle.log_words.specs.Coarse.{coarse_line}
-use Rattle.log_words.specs.Hints.{AreMissingFor, unstarted}
+use Rattle.log_causes.specs.Coarse.{coarse_count}
 use Rattle.log_line.specs.Told.{plain_text}
 
 -- where an entry stands: the name of its file, with escapes, and the number of its line
@@ -117,10 +119,10 @@ change_text there change.Slices = codes "\"slices\" are not those of " ++ there
 -- why a caller should have been told something else
 abbrev pub cause_text : List (List ℕ) → List LogEntry → Option Cause → List ℕ
 cause_text names entries None = []
-cause_text names entries (Some (because.Later place)) =
+cause_text names entries (Some (because.NotSent (unsent.Later place))) =
     codes ": it is sent later, at " ++ (standing_at names entries place ++ (codes ", ticket " ++ decimal (ticket_of (slice_get entries place))))
-cause_text names entries (Some (because.Other changed)) = codes ": " ++ change_text (standing_at names entries changed.place) changed.change
-cause_text names entries (Some because.Nothing) = codes ": no line of the logs sends it"
+cause_text names entries (Some (because.NotSent (unsent.Other changed))) = codes ": " ++ change_text (standing_at names entries changed.place) changed.change
+cause_text names entries (Some (because.NotSent unsent.Nothing)) = codes ": no line of the logs sends it"
 cause_text names entries (Some (because.TakenAway place)) = codes ": " ++ (standing_at names entries place ++ codes " took its key away")
 cause_text names entries (Some (because.TermEnded term at)) = codes ": term " ++ (decimal term ++ (codes " ended at " ++ decimal at))
 cause_text names entries (Some (because.OtherTerm term)) = codes ": the table's term is " ++ decimal term
@@ -167,7 +169,7 @@ abbrev pub later_text : List (List ℕ) → List LogEntry → List WrongReply �
 later_text names entries later = flat_map (wrong_text names entries) later ++ cut_text (length later)
 
 -- a line that the log may lack
-abbrev pub hint_text : List (List ℕ) → List LogEntry → Option Hint → List ℕ
+abbrev pub hint_text : List (List ℕ) → List LogEntry → Option MissingOpen → List ℕ
 hint_text names entries None = []
 hint_text names entries (Some hint) =
     codes "hint: an open line of task " ++ (decimal hint.task ++ (codes " with life " ++ (decimal hint.life ++ (codes " before "
@@ -190,12 +192,34 @@ abbrev pub missing_text : Option MissingGrants → List ℕ
 missing_text None = []
 missing_text (Some grants) = missing_line grants
 
+-- how many calls each actor took, if it took any
+abbrev pub counted_text : List ℕ → CountedCalls → List ℕ
+counted_text word counted = word ++ (decimal counted.number ++ (codes " " ++ decimal counted.calls))
+
+unfoldable pub calls_line : ℕ → List CountedCalls → List CountedCalls → List ℕ
+calls_line table tasks clerks =
+    codes "calls table " ++ (decimal table ++ (flat_map (counted_text (codes ", task ")) tasks
+    ++ (flat_map (counted_text (codes ", clerk ")) clerks ++ codes "\n")))
+
+-- how many replies a log keeps one word of, if there are any
+unfoldable pub coarse_line : ℕ → List ℕ
+coarse_line count = if count == 0 then [] else codes "replies of one word " ++ (decimal count ++ codes "\n")
+
+-- the tasks that took no call, though others name them, if there are any
+abbrev pub numbers_text : List ℕ → List ℕ
+numbers_text numbers = flat_map (λ n. codes " " ++ decimal n) numbers
+
+unfoldable pub silent_line : List ℕ → List ℕ
+silent_line [] = []
+silent_line (task ∷ tasks) = codes "no calls of task" ++ (numbers_text (task ∷ tasks) ++ codes "\n")
+
 -- the lines for calls that are one run: how many there are, of which actors, how many replies were judged by one word, whose calls the log may
 -- lack, and whether the clocks were timely
 abbrev pub one_text : Job → List (List ℕ) → List LogEntry → ℕ → Option Late → List ℕ
 one_text job names entries steps late =
-    codes "audit one\nsteps " ++ (decimal steps ++ (codes "\n" ++ (calls_line job entries ++ (coarse_line entries
-    ++ (silent_line job entries ++ clocks_text job.policy.skew names entries late)))))
+    codes "audit one\nsteps " ++ (decimal steps ++ (codes "\n"
+    ++ (calls_line (table_count entries) (task_counts job entries) (clerk_counts job entries) ++ (coarse_line (coarse_count entries)
+    ++ (silent_line (silent_tasks job entries) ++ clocks_text job.policy.skew names entries late)))))
 
 -- the lines for what was found
 abbrev pub IsReport : Job → List (List ℕ) → List LogEntry → Finding → List ℕ → Type 0
@@ -209,8 +233,8 @@ unsent_text from_snapshot one all_sent = if from_snapshot && (one && not all_sen
     then codes "not-sent: what earlier logs sent may be forgotten, so only an audit of all logs judges these refusals\n" else []
 
 -- these lines, hints if there are any, and the later wrong replies if there are any
-abbrev pub IsWholeReport : Job → List (List ℕ) → List LogEntry → Finding → Option Hint → List WrongReply → List ℕ → Type 0
-IsWholeReport job names entries finding hint later text =
-    (lines : List ℕ) × IsReport job names entries finding lines × (missing : Option MissingGrants) × AreMissingFor entries finding missing
-    × (text ≡ lines ++ (hint_text names entries hint ++ (start_text (unstarted entries finding) ++ (missing_text missing
+abbrev pub IsWholeReport : Job → List (List ℕ) → List LogEntry → Finding → Hints → List WrongReply → List ℕ → Type 0
+IsWholeReport job names entries finding hints later text =
+    (lines : List ℕ) × IsReport job names entries finding lines
+    × (text ≡ lines ++ (hint_text names entries hints.process ++ (start_text hints.start ++ (missing_text hints.grants
     ++ later_text names entries later))))

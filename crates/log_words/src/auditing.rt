@@ -2,21 +2,18 @@
 
 ghost use Rattle.std.specs.Prelude.{◌≡◌, ◌++◌, ℕ, IfOk, List, map, string_bytes};
 ghost use Rattle.cluster.specs.continued.Jobs.{Continued};
-ghost use Rattle.log_words.specs.Audited.{is_one, is_timely};
+ghost use Rattle.log_causes.specs.Audited.{is_one, is_timely};
 ghost use Rattle.log_words.specs.Audits.{IsAudited};
 ghost use Rattle.log_words.specs.DriftReports.{IsDriftTold};
 ghost use Rattle.log_words.specs.Reports.{unsent_text};
 ghost use Rattle.log_line.specs.Files.{IsLog, lines_from};
 ghost use Rattle.log_run.specs.Starts.{BeginsAt};
 
-use crate::comparing::later_wrong_replies;
 use crate::drift_text::drift_text;
-use crate::finding::Finding;
-use crate::hint::hint_for;
-use crate::judging::{Found, find_calls};
 use crate::report::{NamedEntries, report_of};
 use clocks::Drift;
 use job_calls::ClusterSnapshot;
+use log_causes::{Finding, Found, find_calls, hints_for, later_wrong_replies};
 use log_line::{LinePosition, Log, Progress};
 use log_run::{Start, drift_fault};
 use std::alloc::{AllocError, Global};
@@ -24,7 +21,7 @@ use std::alloc::{AllocError, Global};
 /// What an audit does beyond judging the calls.
 #[derive(Clone, Copy, Debug, PartialEq, Eq)]
 pub struct AuditOptions {
-    /// Whether the report tells later wrong replies too, up to [`crate::MOST_WRONG_REPLIES`] in all.
+    /// Whether the report tells later wrong replies too, up to [`log_causes::MOST_WRONG_REPLIES`] in all.
     pub all: bool,
     /// The drift that the samples of the log are judged by.
     pub drift: Option<Drift>,
@@ -152,9 +149,9 @@ pub fn audit_log<P: Progress>(
     } = found;
     let entries = entries.as_slice();
     let named = NamedEntries { names, entries };
-    let hint = hint_for(alloc, &start, entries, &finding)?;
+    let hints = hints_for(alloc, &start, entries, &finding)?;
     let later = later_wrong_replies(alloc, &start, entries, options.all, &finding)?;
-    let text = report_of(alloc, job, named, &finding, hint, later.as_slice())?;
+    let text = report_of(alloc, job, named, &finding, hints, later.as_slice())?;
     let told = drift_told(alloc, options.drift, named, &finding)?;
     let unsent = unsent_line(goes_on, &finding, all_sent);
     let text = with_lines(text, told.line.as_str(), unsent)?;

@@ -3,8 +3,8 @@
 ghost use Rattle.std.specs.Prelude.{◌≡◌, Some, map};
 ghost use Rattle.log_words.specs.Reports.{cause_text, change_text, member_word, standing_at};
 
-use crate::cause::{Cause, Change, Member};
 use crate::report::{NamedEntries, Standing, ticket_at};
+use log_causes::{Cause, Change, Member, Unsent};
 use std::fmt;
 use wire::kind_word;
 
@@ -70,12 +70,12 @@ impl fmt::Display for CauseText<'_> {
         let log = self.log;
         match self.cause {
             None => Ok(()),
-            Some(Cause::Later(index)) => {
+            Some(Cause::NotSent(Unsent::Later(index))) => {
                 let place = Standing { log, index };
                 let ticket = ticket_at(log.entries, index);
                 write!(f, ": it is sent later, at {place}, ticket {ticket}")
             }
-            Some(Cause::Other(changed)) => {
+            Some(Cause::NotSent(Unsent::Other(changed))) => {
                 let index = changed.place;
                 let change = ChangeText {
                     change: changed.change,
@@ -83,7 +83,9 @@ impl fmt::Display for CauseText<'_> {
                 };
                 write!(f, ": {change}")
             }
-            Some(Cause::Nothing) => f.write_str(": no line of the logs sends it"),
+            Some(Cause::NotSent(Unsent::Nothing)) => {
+                f.write_str(": no line of the logs sends it")
+            }
             Some(Cause::TakenAway(index)) => {
                 let place = Standing { log, index };
                 write!(f, ": {place} took its key away")

@@ -3,17 +3,14 @@
 ghost use Rattle.std.specs.Prelude.{◌≡◌, IfOk, Some, map, slice_get, string_bytes};
 ghost use Rattle.log_words.specs.Reports.{IsOtherOf, IsReport, IsWholeReport, cause_text, clocks_text, cut_text, double_text, ended_reason, ended_text, wrong_text, held_reason, hint_text, later_text, lease_text, missing_text, name_text, one_text, reason_text, standing_at, table_read_text, start_text, ticket_of, told_text};
 
-use crate::callers::{calls_line, silent_line};
-use crate::cause::Cause;
 use crate::cause_text::CauseText;
-use crate::coarse::coarse_line;
-use crate::comparing::{MOST_WRONG_REPLIES, WrongReply};
-use crate::finding::Finding;
-use crate::hint::{Hint, unstarted};
-use crate::missing::{MissingGrants, missing_grants};
+use crate::counts_text::{calls_text, coarse_text, silent_text};
 use faults::Escaped;
 use job_calls::{Job, Reading};
 use lease_rule::{Ground, Verdict};
+use log_causes::{
+    Cause, Finding, Hints, MOST_WRONG_REPLIES, MissingGrants, MissingOpen, WrongReply,
+};
 use log_line::{CallerReply, LogEntry, PlainLine};
 use log_run::{HeldLeases, Late};
 use replies::Reply;
@@ -364,7 +361,11 @@ fn later_text(alloc: Global, log: NamedEntries, later: &[WrongReply]) -> Result<
 }
 
 // Returns the line for an `open` that the log may lack, or nothing.
-fn hint_text(alloc: Global, log: NamedEntries, hint: Option<Hint>) -> Result<String, AllocError>
+fn hint_text(
+    alloc: Global,
+    log: NamedEntries,
+    hint: Option<MissingOpen>,
+) -> Result<String, AllocError>
     ensures { IfOk result (λ text. string_bytes text
         ≡ hint_text (map (λ n. n.now) log.entry.names.now) log.entry.entries.now hint) }
 {
@@ -425,9 +426,9 @@ fn one_text(alloc: Global, job: Job, log: NamedEntries, run: Run) -> Result<Stri
         ≡ one_text job (map (λ n. n.now) log.entry.names.now) log.entry.entries.now run.steps run.late) }
 {
     let steps = run.steps;
-    let calls = calls_line(alloc, job, log.entries)?;
-    let coarse = coarse_line(alloc, log.entries)?;
-    let silent = silent_line(alloc, job, log.entries)?;
+    let calls = calls_text(alloc, job, log.entries)?;
+    let coarse = coarse_text(alloc, log.entries)?;
+    let silent = silent_text(alloc, job, log.entries)?;
     let clocks = clocks_text(alloc, job.policy().skew(), log, run.late)?;
     format!(in alloc; "audit one\nsteps {steps}\n{calls}{coarse}{silent}{clocks}")
 }
@@ -460,23 +461,23 @@ fn finding_text(
     }
 }
 
-/// Returns the report on what an audit found of calls of the job, with the `open` line, the start
-/// and the grants that the log may lack, and the wrong replies after the first one that are told.
+/// Returns the report on what an audit found of calls of the job, with what the log may lack, and
+/// the wrong replies after the first one that are told.
 pub fn report_of(
     alloc: Global,
     job: Job,
     log: NamedEntries,
     finding: &Finding,
-    hint: Option<Hint>,
+    hints: Hints,
     later: &[WrongReply],
 ) -> Result<String, AllocError>
     ensures { IfOk result (λ text.
-        IsWholeReport job (map (λ n. n.now) log.entry.names.now) log.entry.entries.now finding.now hint later.now (string_bytes text)) }
+        IsWholeReport job (map (λ n. n.now) log.entry.names.now) log.entry.entries.now finding.now hints later.now (string_bytes text)) }
 {
     let lines = finding_text(alloc, job, log, finding)?;
-    let line = hint_text(alloc, log, hint)?;
-    let start = start_text(alloc, unstarted(log.entries, finding))?;
-    let missing = missing_text(alloc, missing_grants(alloc, log.entries, finding)?)?;
+    let line = hint_text(alloc, log, hints.process)?;
+    let start = start_text(alloc, hints.start)?;
+    let missing = missing_text(alloc, hints.grants)?;
     let more = later_text(alloc, log, later)?;
     format!(in alloc; "{lines}{line}{start}{missing}{more}")
 }

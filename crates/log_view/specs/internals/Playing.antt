@@ -4,14 +4,14 @@ use Rattle.job_calls.specs.Jobs.{Job}
 use Rattle.cluster.specs.Pasts.{Past}
 use Rattle.cluster.specs.Runs.{IsRun}
 use Rattle.cluster.specs.continued.Jobs.{from_start}
-use Rattle.log_words.specs.declared.cause.Cause.{Cause}
+use Rattle.log_causes.specs.declared.cause.Cause.{Cause}
 use Rattle.log_line.specs.declared.entry.LogEntry.{LogEntry}
 use Rattle.log_line.specs.declared.line.LoggedCall.{LoggedCall}
 use Rattle.log_run.specs.declared.log_machines.LogMachines.{LogMachines}
 use Rattle.log_line.specs.declared.told.CallerReply.{CallerReply}
 use Rattle.log_run.specs.Calls.{held_by_asked}
 use Rattle.log_run.specs.Played.{AreCallsOf}
-use Rattle.log_words.specs.Questions.{IsCauseOf}
+use Rattle.log_causes.specs.Questions.{IsCauseOf}
 use Rattle.log_words.specs.Reports.{cause_text, standing_at}
 use Rattle.log_run.specs.internals.Answers.{IsPlayed}
 use Rattle.log_run.specs.internals.Machines.{HavePlayed}

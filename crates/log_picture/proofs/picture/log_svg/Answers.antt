@@ -15,8 +15,8 @@ returns g c =
         found = c.in_ok-finding.ensures.found job refl;
         one = c.is_one.ensures;
         left_out = refl;
-        hint = c.in_ok-hint.hint;
-        hinted = rw (← c.as_slice-entries.ensures.value) (c.in_ok-hint.ensures job refl);
+        hints = c.in_ok-hints.hints;
+        hinted = rw (← c.as_slice-entries.ensures.value) (c.in_ok-hints.ensures job refl);
         reported = search rules;
         shows = search rules;
       };
