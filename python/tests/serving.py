@@ -17,6 +17,8 @@ from hourstable.jobs import Settings
 from hourstable.library import Phase, Refused, Slicelet
 from hourstable.store import Store
 from hourstable.system import SYSTEM, System, make_folder
+from hourstable.task import Denied
+from hourstable.task import Task as ServiceTask
 from hourstable.tickets import Tickets
 from hourstable.transport import Transport
 from hourstable.versions import ROWS
@@ -167,3 +169,12 @@ class Task:
             return True
         except Refused:
             return False
+
+
+def may_serve(task: ServiceTask) -> bool:
+    """Whether a task may serve the key `key` now."""
+    try:
+        task.ask("key")
+        return True
+    except Denied:
+        return False

@@ -21,8 +21,8 @@ needed.library()
 from hourstable import logs  # noqa: E402
 from hourstable.control import Plane  # noqa: E402
 from hourstable.store import Store  # noqa: E402
-from hourstable.task import Denied, Lease, LeaseLost, Overtaken, Task  # noqa: E402
-from serving import HALF, POLICY, Caller, assignment, running  # noqa: E402
+from hourstable.task import Lease, LeaseLost, Overtaken, Task  # noqa: E402
+from serving import HALF, POLICY, Caller, assignment, may_serve, running  # noqa: E402
 from test_handed import audited  # noqa: E402
 from waits import until  # noqa: E402
 
@@ -105,14 +105,6 @@ def is_continuous(lease: Lease) -> bool:
         lease.check()
         return True
     except LeaseLost:
-        return False
-
-
-def may_serve(task: Task) -> bool:
-    try:
-        task.ask("key")
-        return True
-    except Denied:
         return False
 
 

@@ -25,9 +25,9 @@ from hourstable.library import Policy, Refused, Slicelet, Table  # noqa: E402
 from hourstable.rights import Rights, Seat  # noqa: E402
 from hourstable.service import ControlPlane, Options  # noqa: E402
 from hourstable.store import Holding, Store  # noqa: E402
-from hourstable.task import Denied, Task  # noqa: E402
+from hourstable.task import Task  # noqa: E402
 from hourstable.waiting import within  # noqa: E402
-from serving import HALF, POLICY, Answer, Caller, assignment, running  # noqa: E402
+from serving import HALF, POLICY, Answer, Caller, assignment, may_serve, running  # noqa: E402
 from waits import until  # noqa: E402
 
 ADMIN, ONE, ASSIGNER = "the-secret-of-an-admin", "the-secret-of-task-1", "the-secret-of-an-assigner"
@@ -133,14 +133,6 @@ def shows(folder: Path, name: str) -> ssl.SSLContext:
 
 def knows(authority: Path) -> ssl.SSLContext:
     return ssl.create_default_context(cafile=str(authority))
-
-
-def may_serve(task: Task) -> bool:
-    try:
-        task.ask("key")
-        return True
-    except Denied:
-        return False
 
 
 async def test_with_tls_whoever_is_between_drops_calls_and_leases_end(tmp_path: Path, certificates: Path) -> None:
