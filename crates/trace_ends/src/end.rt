@@ -18,14 +18,16 @@ use std::alloc::{AllocError, Global};
 /// How many calls a task or a clerk took.
 #[derive(Clone, Copy, Debug)]
 pub struct ActorCalls {
-    /// The number of the task or the clerk.
+    /// The number of the task or the clerk, from 1.
     pub actor: u64,
+    /// How many calls it took.
     pub calls: u64,
 }
 
 /// How many calls each actor took.
 #[derive(Debug, Drop)]
 pub struct Counts {
+    /// How many calls the table took.
     pub table: u64,
     /// The tasks that took any.
     pub tasks: Vec<ActorCalls>,
@@ -36,14 +38,15 @@ pub struct Counts {
 /// What is told of logs that are one run.
 #[derive(Debug, Drop)]
 pub struct OneRun {
+    /// How many calls the table, each task and each clerk took.
     pub counts: Counts,
     /// How many replies of the logs were judged by one word.
     pub one_word: u64,
-    /// The tasks that took no call though others name them.
+    /// The tasks, by their numbers, that took no call though others name them.
     pub silent: Vec<u64>,
-    /// `None` if the clocks were timely.
+    /// The first reading that is not timely; `None` if the clocks were timely.
     pub untimely: Option<UntimelyReadings>,
-    /// `None` if no drift was asked for.
+    /// Whether the samples keep the drift; `None` if none was asked for.
     pub drift: Option<DriftFound>,
     /// Whether what earlier logs sent may be forgotten, and a call was refused for it.
     pub forgotten: bool,
@@ -54,9 +57,9 @@ pub struct OneRun {
 pub struct DoubleTicket {
     /// The lowest ticket that two calls have.
     pub ticket: u64,
-    /// The number of the first of them.
+    /// The number of the first of them among all calls, from 1.
     pub first: u64,
-    /// The number of the second of them.
+    /// The number of the second of them among all calls, from 1.
     pub second: u64,
 }
 

@@ -11,16 +11,20 @@ use std::alloc::{AllocError, Global};
 /// An `open` line with which the calls up to the wrong one are a run.
 #[derive(Clone, Copy, Debug)]
 pub struct OpenHint {
+    /// The number of the task, from 1.
     pub task: u64,
+    /// The life that it would open.
     pub life: u32,
-    /// The number of the call before which it would stand.
+    /// The number among all calls, from 1, of the call before which it would stand.
     pub before: u64,
 }
 
 /// Grants that no line of the logs has, by their numbers.
 #[derive(Clone, Copy, Debug)]
 pub struct GrantsHint {
+    /// The first of them.
     pub from: u64,
+    /// The last of them.
     pub to: u64,
 }
 
@@ -29,8 +33,9 @@ pub struct GrantsHint {
 pub struct Hints {
     /// An `open` line, the begin of a process.
     pub process: Option<OpenHint>,
-    /// A task whose `start` may be missing.
+    /// The number of a task whose `start` may be missing.
     pub begin: Option<u64>,
+    /// The first grants that no line has.
     pub grants: Option<GrantsHint>,
 }
 
