@@ -4,7 +4,6 @@ ghost use Rattle.std.specs.Prelude.{◌≡◌, IfOk, option_map};
 ghost use Rattle.serde_json.specs.View.{view};
 ghost use Rattle.wire.specs.declared.numerals.Numerals.TheVariants as numeral;
 ghost use Rattle.wire.specs.Kept.{job_term_data};
-ghost use Rattle.wire.specs.Rows.{row_data};
 ghost use Rattle.reason_values.specs.Reasons.{heard_data, held_data, last_data, life_data, reason_data, term_data};
 
 use crate::breaks::break_json;
@@ -16,7 +15,7 @@ use lease_rule::Kind;
 use reasons::Reason;
 use serde_json::{Value, json};
 use std::alloc::{AllocError, Global};
-use wire::kind_word;
+use wire::{Wire, kind_word};
 
 fn last_json(alloc: Global, last: u64) -> Result<Value, AllocError>
     ensures { IfOk result (λ v. view v ≡ last_data last) }
@@ -24,26 +23,10 @@ fn last_json(alloc: Global, last: u64) -> Result<Value, AllocError>
     json!(in alloc; {"last": quoted(alloc, last)?})
 }
 
-fn row_json(alloc: Global, row: &Row) -> Result<Value, AllocError>
-    ensures { IfOk result (λ v. view v ≡ row_data numeral.Quoted row.now) }
-{
-    let generation = quoted(alloc, row.generation)?;
-    let number = quoted(alloc, row.number)?;
-    let until = quoted(alloc, row.table_ends)?;
-    json!(in alloc; {
-        "generation": generation,
-        "kind": kind_word(row.kind),
-        "life": row.life,
-        "number": number,
-        "task": row.task.number(),
-        "until": until
-    })
-}
-
 fn held_json(alloc: Global, row: &Row) -> Result<Value, AllocError>
     ensures { IfOk result (λ v. view v ≡ held_data row.now) }
 {
-    let row = row_json(alloc, row)?;
+    let row = row.to_json(alloc)?;
     json!(in alloc; {"row": row})
 }
 
