@@ -52,17 +52,28 @@ def gaps_of(folder: Path, above: int = 0) -> list[Gap]:
     """Returns what the logs of a job lack, but for what was removed and is below a ticket, up to which an earlier
     audit saw all.
 
-    Of two gaps that begin with one call the later one counts: the disk had not taken what came then. A gap whose
-    first and last calls are in a log is none: a control plane has logged what its store had of one write.
+    Of gaps that begin with one call the last one counts whose last call no log has: a full disk may have had room
+    for the line of a first one alone, and a control plane that takes over logs what the store has, the last gap and
+    the call after it. A gap whose first and last calls are in a log is none: a control plane has logged what its
+    store had of one write.
     """
-    found = {gap.first: gap for gap in _gaps_in(folder) if not (gap.removed and gap.last < above)}
-    wanted = {ticket for gap in found.values() for ticket in (gap.first, gap.last)}
+    begun: dict[int, list[Gap]] = {}
+    for gap in _gaps_in(folder):
+        if not (gap.removed and gap.last < above):
+            begun.setdefault(gap.first, []).append(gap)
+    ends = {ticket for gaps in begun.values() for gap in gaps for ticket in (gap.first, gap.last)}
+    there = _those_there(folder, ends)
+    found = [max(gaps, key=lambda gap: (gap.last not in there, gap.last)) for gaps in begun.values()]
+    return [gap for gap in found if not {gap.first, gap.last} <= there]
+
+
+def _those_there(folder: Path, wanted: set[int]) -> set[int]:
+    """Returns those of the tickets that a call of the logs has."""
     there: set[int] = set()
-    if found:
-        for path in logs.files_of(folder):
-            with open(path, "rb") as lines:
-                there.update(ticket for line in lines if (ticket := logs.ticket_of(line, 0)) in wanted)
-    return [gap for gap in found.values() if not {gap.first, gap.last} <= there]
+    for path in logs.files_of(folder) if wanted else ():
+        with open(path, "rb") as lines:
+            there.update(ticket for line in lines if (ticket := logs.ticket_of(line, 0)) in wanted)
+    return there
 
 
 def _gaps_in(folder: Path) -> Iterator[Gap]:

@@ -258,21 +258,26 @@ def test_gaps_of_logs(tmp_path: Path) -> None:
         return logs.gap_line(lines, first, last, **members)
 
     assert gap(4, 5, 8) == '{"gap":{"lines":4,"from":5,"until":8}}'
-    written(tmp_path, "a.2026-01-01.jsonl", call(5), gap(1, 6, 6), gap(4, 6, 9), call(10))  # the later one counts
+    written(tmp_path, "a.2026-01-01.jsonl", call(5), gap(1, 6, 6), gap(4, 6, 9), call(10))  # the last one counts
     written(tmp_path, "b.2026-01-01.jsonl", call(7), gap(2, 11, 12))
     written(tmp_path, "c.2026-01-01.jsonl", gap(2, 13, 14), call(13), call(14))  # logged after all
     written(tmp_path, "d.2026-01-01.jsonl", gap(1, 15, 15))
     written(tmp_path, "e.2026-01-05.jsonl", call(15), gap(0, 2, 3, file="e.2026-01-01.jsonl"))
     written(tmp_path, "f-gap.jsonl", gap(3, 21, 23))
     written(tmp_path, "f.2026-01-01.jsonl", call(20), gap(2, 21, 22))  # and that of the file beside the log
+    written(tmp_path, "g.2026-01-01.jsonl", gap(3, 31, 33), gap(2, 31, 32), call(33))  # 33 was logged after all
+    written(tmp_path, "h.2026-01-01.jsonl", call(41), call(42), gap(6, 41, 46), call(47))  # as the store had it
+    written(tmp_path, "i.2026-01-01.jsonl", gap(2, 41, 42))  # for which the disk had room
     assert [str(gap) for gap in gaps_of(tmp_path)] == [
         "a.2026-01-01.jsonl:4: 4 lines are missing, tickets 6 to 9",
         "b.2026-01-01.jsonl:3: 2 lines are missing, tickets 11 to 12",
         "e.2026-01-05.jsonl:3: e.2026-01-01.jsonl was removed and not audited, tickets 2 to 3",
         "f-gap.jsonl:2: 3 lines are missing, tickets 21 to 23",
+        "g.2026-01-01.jsonl:3: 2 lines are missing, tickets 31 to 32",
+        "h.2026-01-01.jsonl:4: 6 lines are missing, tickets 41 to 46",
     ]
-    assert len(gaps_of(tmp_path, 3)) == 4
-    assert len(gaps_of(tmp_path, 4)) == 3
+    assert len(gaps_of(tmp_path, 3)) == 6
+    assert len(gaps_of(tmp_path, 4)) == 5
 
 
 def test_an_audit_never_says_one_over_a_gap(tmp_path: Path, capfd: Said) -> None:
