@@ -209,6 +209,40 @@ func TestCovering(t *testing.T) {
 	is(t, "what covers an ended key of the upper half", errors.As(err, &refused) && refused.Covering == 3, true)
 }
 
+// With no local clock given, calls read LocalTicks, and once alone if their line has no room.
+func TestCallsReadLocalTicks(t *testing.T) {
+	task, clock := halfTask(t), newClock(t)
+	succeeds(t, "hear", task.Hear(grant(8, 3, 1<<31), 6))
+	sent, err := LocalTicks()
+	succeeds(t, "the local clock", err)
+	succeeds(t, "sample", clock.Sample(sent, 7, sent))
+	calls := map[string]func(*Block) error{
+		"enter":    func(block *Block) error { return task.Enter(clock, nil, []byte("hello"), block) },
+		"enter at": func(block *Block) error { return task.EnterAt(clock, nil, 7, block) },
+		"leave":    func(block *Block) error { return task.Leave(clock, nil, block) },
+	}
+	for _, room := range []int{LineRoom, 1} {
+		block := Block{Ticket: 1, Line: make([]byte, 0, room)}
+		for _, name := range []string{"enter", "leave", "enter at", "leave"} {
+			earliest, err := clock.ReadNow(nil)
+			succeeds(t, "the clock before", err)
+			succeeds(t, name, calls[name](&block))
+			latest, err := clock.ReadNow(nil)
+			succeeds(t, "the clock after", err)
+			is(t, name+": its reading is between", earliest <= block.At && block.At <= latest, true)
+			is(t, name+": its line", strings.HasPrefix(string(block.Line), fmt.Sprintf(`{"at":%d,`, block.At)), true)
+		}
+	}
+	policy := Policy{Low: 1, High: 1, Guard: 1 << 32, Bridge: 1 << 32, Job: 1 << 32, Numbers: 100}
+	earliest, err := clock.ReadNow(nil)
+	succeeds(t, "the clock before", err)
+	receipt := Receipt{Ticket: 2}
+	succeeds(t, "receive", task.Receive(clock, nil, policy, grant(9, 3, 1<<31), &receipt))
+	latest, err := clock.ReadNow(nil)
+	succeeds(t, "the clock after", err)
+	is(t, "receive: its reading is between", earliest <= receipt.At && receipt.At <= latest, true)
+}
+
 // Nothing is allocated for a block that is allowed, with a line or with none.
 func TestBlocksAllocateNothing(t *testing.T) {
 	task, clock, key := halfTask(t), newClock(t), []byte("hello")

@@ -90,11 +90,11 @@ func (t *TaskClock) Read(now uint64) (uint64, error) {
 }
 
 // ReadNow is Read at the reading of a local clock, which it calls while no other
-// call of this clock runs.
+// call of this clock runs; nil is LocalTicks.
 func (t *TaskClock) ReadNow(local func() (uint64, error)) (uint64, error) {
 	t.mutex.Lock()
 	defer t.mutex.Unlock()
-	now, err := local()
+	now, err := localOr(local)()
 	if err != nil {
 		return 0, err
 	}

@@ -1,33 +1,6 @@
 package hourstable
 
-/*
-#include <stdint.h>
-#include <time.h>
-
-// What is read of the clocks, by value, so that nothing escapes to Go's heap; ok is 0 if the system lacks one of them.
-struct local_clocks {
-    int64_t raw, boot, monotonic;
-    int ok;
-};
-
-static int read_clock(clockid_t clock, int64_t *nanoseconds) {
-    struct timespec now;
-    if (clock_gettime(clock, &now) != 0)
-        return 0;
-    *nanoseconds = (int64_t)now.tv_sec * 1000000000 + now.tv_nsec;
-    return 1;
-}
-
-// The clocks in this order, by one call of cgo.
-static struct local_clocks read_clocks(void) {
-    struct local_clocks it = {0};
-#if defined(CLOCK_MONOTONIC_RAW) && defined(CLOCK_BOOTTIME)
-    it.ok = read_clock(CLOCK_MONOTONIC_RAW, &it.raw) && read_clock(CLOCK_BOOTTIME, &it.boot) &&
-        read_clock(CLOCK_MONOTONIC, &it.monotonic);
-#endif
-    return it;
-}
-*/
+// #include "local_clocks.h"
 import "C"
 
 import (
@@ -39,8 +12,7 @@ import (
 // and the time for which the machine was suspended, which is how far CLOCK_BOOTTIME is ahead of CLOCK_MONOTONIC. Where
 // the system lacks one of them, it is BoottimeTicks.
 func LocalTicks() (uint64, error) {
-	localOnce.Do(func() { _, hasRaw = readClocks() })
-	if !hasRaw {
+	if !hasLocalClocks() {
 		return BoottimeTicks()
 	}
 	read, _ := readClocks()
@@ -49,9 +21,16 @@ func LocalTicks() (uint64, error) {
 
 var (
 	localOnce       sync.Once
-	hasRaw          bool // decided once: the two clocks differ
+	hasClocks       bool
 	localSuspension suspension
 )
+
+// hasLocalClocks says whether the system has the clocks of LocalTicks. It is decided once, since BoottimeTicks is
+// another clock.
+func hasLocalClocks() bool {
+	localOnce.Do(func() { _, hasClocks = readClocks() })
+	return hasClocks
+}
 
 // clocks are readings in nanoseconds, taken in this order.
 type clocks struct{ raw, boot, monotonic int64 }
@@ -61,18 +40,28 @@ func readClocks() (clocks, bool) {
 	return clocks{int64(it.raw), int64(it.boot), int64(it.monotonic)}, it.ok != 0
 }
 
-// suspension is for how long the machine was suspended, as far as readings prove it: CLOCK_MONOTONIC is read last, so a
-// process that is stopped between two readings makes it too short, and never too long. It does not fall.
+// suspension is for how long the machine was suspended, as far as readings prove it. It does not fall.
 type suspension struct{ known atomic.Int64 }
 
 // add returns the raw reading with the suspension, in ticks.
 func (s *suspension) add(read clocks) uint64 {
-	proved, known := read.boot-read.monotonic, s.known.Load()
-	for proved > known && !s.known.CompareAndSwap(known, proved) {
+	given := C.struct_local_clocks{raw: C.int64_t(read.raw), boot: C.int64_t(read.boot), monotonic: C.int64_t(read.monotonic)}
+	it := C.reading_of(given, C.int64_t(s.known.Load()))
+	s.keep(int64(it.suspension))
+	return uint64(it.ticks)
+}
+
+// keep takes a suspension that a reading has proved.
+func (s *suspension) keep(proved int64) {
+	for known := s.known.Load(); proved > known && !s.known.CompareAndSwap(known, proved); {
 		known = s.known.Load()
 	}
-	if proved > known {
-		known = proved
+}
+
+// localOr returns a local clock, which is LocalTicks if none is given.
+func localOr(local func() (uint64, error)) func() (uint64, error) {
+	if local == nil {
+		return LocalTicks
 	}
-	return uint64(read.raw+known) / 1_000_000
+	return local
 }

@@ -20,7 +20,8 @@ func TestTheLocalClockIsNotSlewedAndCountsSuspension(t *testing.T) {
 		{"the other clocks are slewed by a tenth", clocks{20 * second, 23 * second, 23 * second}, 20_000},
 		{"suspended for an hour", clocks{21 * second, 3624 * second, 24 * second}, 3_621_000},
 		{"stopped for 2 s before the last reading", clocks{22 * second, 3625 * second, 27 * second}, 3_622_000},
-		{"a slew back", clocks{23 * second, 3626 * second, 26 * second}, 3_623_000},
+		{"stopped again", clocks{23 * second, 3626 * second, 28 * second}, 3_623_000},
+		{"a slew back", clocks{24 * second, 3627 * second, 27 * second}, 3_624_000},
 	} {
 		if found := known.add(it.read); found != it.wanted {
 			t.Errorf("%s: %d, not %d", it.why, found, it.wanted)

@@ -38,10 +38,10 @@ type Receipt struct {
 // Receive receives a grant, given as its message: it reads the local clock and then
 // clock, hears the grant at that reading as Hear does, unless it shows that clocks are
 // not timely, and writes the line of that call, in one call of the library, which
-// decodes the message once. policy is that of the table. local must not use clock. The
-// codes of TaskClock.Read, with which no call is made, ErrWrongForm if a number of the
-// policy is outside its limits, then those of Hear, of which those of the slicelet have
-// a line. After a code of messages the clock is as before.
+// decodes the message once. policy is that of the table. local must not use clock; nil is
+// LocalTicks. The codes of TaskClock.Read, with which no call is made, ErrWrongForm if a
+// number of the policy is outside its limits, then those of Hear, of which those of the
+// slicelet have a line. After a code of messages the clock is as before.
 func (s *Slicelet) Receive(clock *TaskClock, local func() (uint64, error), policy Policy, grant []byte,
 	receipt *Receipt) error {
 	if room := len(grant) + LineRoom; cap(receipt.Line) > 0 && cap(receipt.Line) < room {
@@ -53,7 +53,7 @@ func (s *Slicelet) Receive(clock *TaskClock, local func() (uint64, error), polic
 	defer clock.mutex.Unlock()
 	line := receipt.Line[:cap(receipt.Line)]
 	*receipt = Receipt{Ticket: receipt.Ticket, Line: line[:0]}
-	now, err := local()
+	now, err := localOr(local)()
 	if err != nil {
 		return err
 	}

@@ -18,11 +18,14 @@ type desk struct {
 	_        [64]byte          // the next desk is in another line of the cache
 }
 
-// count counts an answer for the loads.
-func (d *desk) count(sliceKey uint64) {
+// end takes a lease from the open ones, and counts it for the loads if its key was allowed.
+func (d *desk) end(lease *Lease) {
 	d.mutex.Lock()
 	defer d.mutex.Unlock()
-	d.loads[sliceKey>>(63-loadBits)]++
+	delete(d.open, lease)
+	if lease.isAllowed {
+		d.loads[lease.sliceKey>>(63-loadBits)]++
+	}
 }
 
 // desks are those of a task.

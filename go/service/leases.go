@@ -21,7 +21,7 @@ type leases struct {
 	epoch    uint32 // of the job; 0 if it is not known
 	slicelet *hourstable.Slicelet
 	clock    *hourstable.TaskClock
-	local    func() (uint64, error)
+	local    func() (uint64, error) // nil for LocalTicks, which a call of a block reads by itself
 	tickets  *tickets
 	log      *callLog // nil for none
 	part     uint64   // of the log; 0 if it was stopped when the life began
@@ -70,6 +70,14 @@ func (l *leases) close() {
 	l.slicelet.Close()
 }
 
+// localNow returns the local reading.
+func (l *leases) localNow() (uint64, error) {
+	if l.local == nil {
+		return hourstable.LocalTicks()
+	}
+	return l.local()
+}
+
 // read returns the task's reading now. ErrClockBehind.
 func (l *leases) read() (uint64, error) {
 	at, err := l.clock.ReadNow(l.local)
@@ -84,7 +92,7 @@ func (l *leases) read() (uint64, error) {
 func (l *leases) sample(made answer) error {
 	l.mutex.Lock()
 	defer l.mutex.Unlock()
-	now, err := l.local()
+	now, err := l.localNow()
 	if err != nil {
 		return err
 	}

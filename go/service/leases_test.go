@@ -317,6 +317,21 @@ func TestAPhaseOfBefore(t *testing.T) {
 	}
 }
 
+// A question that is denied is no load.
+func TestLoadsAreThoseOfAnswers(t *testing.T) {
+	task := &ran{Task: lone(t, TaskConfig{Control: []string{"http://127.0.0.1:1"}, Job: "shop", Task: 1}, 300)}
+	for task.serves("hello") {
+		time.Sleep(time.Millisecond)
+	}
+	task.told()
+	if task.serves("hello") {
+		t.Fatal("it serves after the end of its lease")
+	}
+	if loads := task.told()["loads"]; !reflect.DeepEqual(loads, [][3]any{}) {
+		t.Errorf("it reports %v", loads)
+	}
+}
+
 // What a task reports: how many answers each part of the keys had since the last report, and of which life it is.
 func TestReports(t *testing.T) {
 	task := &ran{Task: lone(t, TaskConfig{Control: []string{"http://127.0.0.1:1"}, Job: "shop", Task: 1}, 1<<32)}

@@ -29,7 +29,7 @@ func (t *Task) comeIn(ctx context.Context) (time.Duration, error) {
 		t.reached(nil)
 		return t.refused(life.Life, made.body)
 	}
-	if now, err := t.config.local(); err != nil || now-made.sent >= t.policy.Guard/2 {
+	if now, err := t.config.now(); err != nil || now-made.sent >= t.policy.Guard/2 {
 		return 0, err // it was stopped, and another life may be let in since
 	}
 	ended := t.endedBefore(life, made.reading)

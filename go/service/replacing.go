@@ -48,7 +48,7 @@ func (t *Task) replace(ctx context.Context, old *leases) (time.Duration, error) 
 	defer t.keepWaiting()()
 	grant, _ := old.lease(hourstable.Guard)
 	t.waitForAnswers(grant.Ranges)
-	if now, err := t.config.local(); err != nil || now-made.sent >= atMost(just, t.policy.Guard/2) {
+	if now, err := t.config.now(); err != nil || now-made.sent >= atMost(just, t.policy.Guard/2) {
 		// else it would start a life that nobody may answer
 		if made, epoch, err = t.letIn(ctx, life.Life); err != nil {
 			return 0, err

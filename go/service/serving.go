@@ -15,13 +15,14 @@ type Lease struct {
 	Kind       hourstable.Kind
 	Generation uint64
 
-	sliceKey uint64
-	covering uint64 // the greatest generation of the leases that cover the key
-	isLogged bool
-	handle   hourstable.Handle
-	leases   *leases
-	desk     *desk
-	task     *Task
+	sliceKey  uint64
+	covering  uint64 // the greatest generation of the leases that cover the key
+	isLogged  bool
+	isAllowed bool
+	handle    hourstable.Handle
+	leases    *leases
+	desk      *desk
+	task      *Task
 }
 
 // Check returns ErrLeaseLost unless the task has held the key since the answer was
@@ -31,6 +32,14 @@ func (l *Lease) Check() error {
 		return ErrLeaseLost // another life, whose slicelet did not give the handle
 	}
 	err := l.leases.check(l)
+	if err == nil {
+		return nil
+	}
+	return lostBy(err)
+}
+
+// lostBy returns ErrLeaseLost where a check was refused, and any other error as it is.
+func lostBy(err error) error {
 	var refused *hourstable.Refused
 	if errors.As(err, &refused) || errors.Is(err, ErrClockBehind) {
 		return fmt.Errorf("%w: %v", ErrLeaseLost, err)
@@ -66,7 +75,7 @@ func (t *Task) Serving(ctx context.Context, key string, answer func(context.Cont
 		return err
 	}
 	err = lease.Check()
-	if errors.Is(err, ErrLeaseLost) {
+	if err != nil && errors.Is(err, ErrLeaseLost) {
 		t.mutex.Lock()
 		t.counts.LeaseLost++
 		t.mutex.Unlock()
@@ -86,21 +95,26 @@ func (t *Task) enter(ctx context.Context, key string) (*Lease, error) {
 	}
 	err := lease.leases.enter(lease)
 	if err == nil {
-		lease.desk.count(lease.sliceKey)
+		lease.isAllowed = true
 		return lease, nil
 	}
 	t.leave(lease)
+	return nil, t.notAllowed(key, err)
+}
+
+// notAllowed returns the error of a question that the library did not allow.
+func (t *Task) notAllowed(key string, err error) error {
 	var refused *hourstable.Refused
 	switch {
 	case errors.Is(err, hourstable.ErrOtherPlace): // the life has just ended
-		return nil, t.denied(key, "down", hourstable.ErrDown)
+		return t.denied(key, "down", hourstable.ErrDown)
 	case errors.As(err, &refused):
 		ground, _, _ := strings.Cut(refused.Reply(), " ")
-		return nil, t.denied(key, ground, refused)
+		return t.denied(key, ground, refused)
 	case errors.Is(err, ErrClockBehind):
-		return nil, t.denied(key, "clock-behind", err)
+		return t.denied(key, "clock-behind", err)
 	}
-	return nil, err
+	return err
 }
 
 // admission is what decides whether a question is asked at all.
@@ -160,8 +174,6 @@ func (t *Task) denied(key, ground string, cause error) error {
 }
 
 func (t *Task) leave(lease *Lease) {
-	lease.desk.mutex.Lock()
-	delete(lease.desk.open, lease)
-	lease.desk.mutex.Unlock()
+	lease.desk.end(lease)
 	wake(t.left)
 }

@@ -39,7 +39,7 @@ func lone(b testing.TB, config TaskConfig, ends uint64) *Task {
 		job: "shop", task: 1, life: 1, clock: clock, local: task.config.local, tickets: task.tickets, log: task.log,
 	}
 	must(b, held.begin(0))
-	sent, err := held.local()
+	sent, err := held.localNow()
 	must(b, err)
 	reading := uint64(5)
 	must(b, held.sample(answer{sent: sent, reading: &reading}))

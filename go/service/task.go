@@ -134,7 +134,7 @@ func NewTask(config TaskConfig) (*Task, error) {
 	made.lasting, made.stop = context.WithCancel(context.Background())
 	made.control = newControl(config.Control, config.Job)
 	made.control.secret, made.control.client, made.control.logger = config.Secret, config.Client, config.Logger
-	made.control.tickets, made.control.local = drawn, config.local
+	made.control.tickets, made.control.local = drawn, config.now
 	return made, nil
 }
 
@@ -154,11 +154,16 @@ func (c TaskConfig) withDefaults() TaskConfig {
 	if c.Report == 0 {
 		c.Report = 5 * time.Second
 	}
-	if c.local == nil {
-		c.local = hourstable.LocalTicks
-	}
 	c.Logger = loggerOf(c.Logger, "job", c.Job, "task", c.Task)
 	return c
+}
+
+// now returns the local reading.
+func (c TaskConfig) now() (uint64, error) {
+	if c.local == nil {
+		return hourstable.LocalTicks()
+	}
+	return c.local()
 }
 
 // lockFolder returns the folder of the lock and the keys of the task: that of state, or

@@ -111,7 +111,7 @@ func TestTheClockOfATask(t *testing.T) {
 		t.Errorf("the drift is %+v", task.config.Drift)
 	}
 	before, _ := hourstable.LocalTicks()
-	now, _ := task.config.local()
+	now, _ := task.config.now()
 	after, _ := hourstable.LocalTicks()
 	if now < before || now > after {
 		t.Errorf("%d is not from %d to %d", now, before, after)
