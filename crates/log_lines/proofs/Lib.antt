@@ -1,6 +1,7 @@
 pub mod Values
 pub mod ReadBack
 pub mod Written
+pub mod PlainLines
 pub mod MessageReads
 pub mod Giving
 pub mod Receiving

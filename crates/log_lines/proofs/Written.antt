@@ -18,7 +18,8 @@ use Rattle.log_line.specs.declared.line.LoggedCall.{LoggedCall}
 use Rattle.log_line.specs.declared.line.LoggedCall.TheVariants.{Whole, HearBare, LearnBare, Restore, Sample}
 use Rattle.log_line.specs.Lines.{SaysLine}
 use Rattle.log_lines.specs.LineData.{clerk_data, line_data, machine_data, table_data, task_data}
-use Rattle.log_lines.specs.Lines.{IsReadBack, line_text, logged_line}
+use Rattle.log_lines.specs.Lines.{IsReadBack, logged_line}
+use Rattle.log_lines.specs.PlainLines.{IsCompactJson}
 use Rattle.log_lines.proofs.Values.{grant_once, grant_shallow, grant_whole, slices_once, slices_shallow, slices_whole}
 
 table_whole : (ticket : ℕ) (made : TableCall) (words : List ℕ) → has_float (table_data ticket made words) ≡ false
@@ -133,19 +134,24 @@ line_once ticket (Restore numbers) words = refl
 line_once ticket (Sample taken) words = refl
 
 -- bytes that are written of a line say the line
-pub says_line : (ticket : ℕ) (made : LoggedCall) (words : List ℕ) (d : Data) (bytes : List ℕ) → IsReadBack ticket made words → d ≡ line_data ticket made words
-    → IsUtf8 bytes → (depth d ≤ max_depth → read bytes ≡ Some d) → IsInOrder bytes d → SaysLine bytes (logged_line ticket made words)
-says_line ticket made words d bytes back is utf8 reads order =
-    let shallow : depth d ≤ max_depth = rw is (omega (arith, line_shallow ticket made words)) in
-    let once : first_repeated (outline d) ≡ None = rw (is, line_once ticket made words) refl in
-    record {
-      value = d;
-      json = record { json = record { utf8 = utf8; reads = reads shallow }; once = written_once bytes d order once };
-      says = rw is back;
-    }
+says_line : (ticket : ℕ) (made : LoggedCall) (words bytes : List ℕ) → IsReadBack ticket made words → IsCompactJson bytes (line_data ticket made words)
+    → SaysLine bytes (logged_line ticket made words)
+says_line ticket made words bytes back json = record {
+  value = line_data ticket made words;
+  json = record { json = record { utf8 = json.utf8; reads = json.reads }; once = written_once bytes (line_data ticket made words) json.order (line_once ticket made words) };
+  says = back;
+}
 
--- what was written of it is its text
-pub as_text : {X E : Type 0} (r : Result X E) (items : X → List ℕ) (ticket : ℕ) (made : LoggedCall) (words : List ℕ) (d : Data) → d ≡ line_data ticket made words
-    → IfOk r (λ x. has_float d ≡ false → items x ≡ compact_text d) → IfOk r (λ x. items x ≡ line_text ticket made words)
-as_text (Ok x) items ticket made words d is text = rw (← is) (text (rw is (line_whole ticket made words)))
-as_text (Err e) items ticket made words d is text = tt
+pub says_if_written : {X E : Type 0} (r : Result X E) (items : X → List ℕ) (ticket : ℕ) (made : LoggedCall) (words : List ℕ) → IsReadBack ticket made words
+    → IfOk r (λ x. IsCompactJson (items x) (line_data ticket made words)) → IfOk r (λ x. SaysLine (items x) (logged_line ticket made words))
+says_if_written (Ok x) items ticket made words back json = says_line ticket made words (items x) back json
+says_if_written (Err e) items ticket made words back json = tt
+
+-- what was written of its value is its JSON
+pub of_value : {X E : Type 0} (r : Result X E) (items : X → List ℕ) (ticket : ℕ) (made : LoggedCall) (words : List ℕ) (d : Data) → d ≡ line_data ticket made words
+    → IfOk r (λ x. has_float d ≡ false → items x ≡ compact_text d) → IfOk r (λ x. IsUtf8 (items x)) → IfOk r (λ x. IsInOrder (items x) d)
+    → IfOk r (λ x. depth d ≤ max_depth → read (items x) ≡ Some d) → IfOk r (λ x. IsCompactJson (items x) (line_data ticket made words))
+of_value (Ok x) items ticket made words d is text utf8 order reads =
+    let shallow : depth d ≤ max_depth = rw is (omega (arith, line_shallow ticket made words)) in
+    rw (← is) (record { text = text (rw is (line_whole ticket made words)); utf8 = utf8; reads = reads shallow; order = order })
+of_value (Err e) items ticket made words d is text utf8 order reads = tt

@@ -5,6 +5,7 @@ pub mod Calls
 pub mod Refusals
 pub mod Replies
 pub mod LineData
+pub mod PlainLines
 pub mod Lines
 pub mod Blocks
 pub mod Receipts

@@ -15,6 +15,7 @@ mod line_laws;
 mod message;
 mod numbers;
 mod output;
+mod plain_line;
 mod receipts;
 mod refusals;
 mod replied;

@@ -1,11 +1,14 @@
 //! The line of a call, given whole or not at all.
 
-ghost use Rattle.std.specs.Prelude.{◌≡◌, IfOk};
+ghost use Rattle.std.specs.Prelude.{◌≡◌, IfOk, string_bytes};
 ghost use Rattle.log_line.specs.Lines.{SaysLine};
+ghost use Rattle.log_line.specs.Told.{plain_text};
 ghost use Rattle.c_calls.specs.Jobs.{job_of};
 ghost use Rattle.c_calls.specs.Outputs.{output};
+ghost use Rattle.log_lines.specs.LineData.{line_data};
 ghost use Rattle.log_lines.specs.Lines.{IsLine, IsLineGiven, IsLineOf, IsLineOfNumbers, IsNamedLineGiven, is_done, line_text, logged_line};
 ghost use Rattle.log_lines.specs.Messages.{message_kind};
+ghost use Rattle.log_lines.specs.PlainLines.{IsCompactJson};
 ghost use Rattle.log_lines.specs.Replies.{Logged, logged_in};
 
 use crate::call_name::CallName;
@@ -15,12 +18,16 @@ use crate::line_laws::line_law;
 use crate::message::{Message, MessageKind, message_kind, read_message};
 use crate::numbers::LoggedNumbers;
 use crate::output::{give_made, unread_answer};
+use crate::plain_line::{is_plain, plain_line};
 use crate::replied::told_in;
 use c_calls::{Answer, job_of};
 use log_line::{CallerReply, LoggedCall, PlainLine};
 use std::alloc::{AllocError, Global};
 use std::marker::Model;
 use wire::JobName;
+
+// Room for the words of most replies.
+const WORDS_ROOM: usize = 64;
 
 /// A call, and what its caller was told.
 #[derive(Debug, Drop)]
@@ -47,6 +54,36 @@ fn logged_in(name: CallName, n: &LoggedNumbers, message: Message) -> Option<Logg
     Some(LoggedReply { call, told })
 }
 
+// Writes the line by a value of its JSON.
+fn value_bytes(
+    alloc: Global,
+    ticket: u64,
+    call: &LoggedCall,
+    words: &str,
+) -> Result<Vec<u8>, AllocError>
+    ensures { IfOk result (λ bytes. IsCompactJson bytes.items (line_data ticket call.now words.now)) }
+{
+    let line = line_json(alloc, ticket, call, words)?;
+    line.to_vec(alloc)
+}
+
+// Writes the line as text if it is one of the calls that are made most.
+fn json_bytes(
+    alloc: Global,
+    ticket: u64,
+    call: &LoggedCall,
+    words: &str,
+) -> Result<Vec<u8>, AllocError>
+    ensures { IfOk result (λ bytes. IsCompactJson bytes.items (line_data ticket call.now words.now)) }
+{
+    if is_plain(words) {
+        if let Some(line) = plain_line(alloc, ticket, call, words)? {
+            return Ok(line.into_bytes());
+        }
+    }
+    value_bytes(alloc, ticket, call, words)
+}
+
 // Writes the line without its end.
 fn bytes_of(
     alloc: Global,
@@ -58,14 +95,22 @@ fn bytes_of(
     ensures says { IfOk result (λ bytes. SaysLine bytes.items (logged_line ticket call.now words.now)) }
 {
     line_law(ticket, call, words);
-    let line = line_json(alloc, ticket, call, words)?;
-    line.to_vec(alloc)
+    json_bytes(alloc, ticket, call, words)
+}
+
+// Writes the words that the caller was told.
+fn words_of(alloc: Global, told: &CallerReply) -> Result<String, AllocError>
+    ensures { IfOk result (λ words. string_bytes words ≡ plain_text told.now) }
+{
+    let mut words = String::with_capacity(alloc, WORDS_ROOM)?;
+    write!(words, "{}", PlainLine(told))?;
+    Ok(words)
 }
 
 fn line_of(alloc: Global, ticket: u64, logged: &LoggedReply) -> Result<Vec<u8>, AllocError>
     ensures { IfOk result (λ text. IsLineOf ticket logged.now text.items) }
 {
-    let words = format!(in alloc; "{}", PlainLine(&logged.told))?;
+    let words = words_of(alloc, &logged.told)?;
     let mut text = bytes_of(alloc, ticket, &logged.call, words.as_str())?;
     text.push(b'\n')?;
     Ok(text)
