@@ -1,0 +1,86 @@
+"""Traces for tests: of scripts and of logs, by the stand-in for `hourstable trace`."""
+
+from __future__ import annotations
+
+import json
+import os
+import re
+import subprocess
+import sys
+from collections.abc import Iterable
+from pathlib import Path
+
+import needed
+
+from hourstable.show import trace
+from stand_in.logs import Asked, Logs
+from stand_in.scripts import script_trace
+from stand_in.tasks import Members
+
+TOP = Path(__file__).resolve().parents[2]
+SCRIPTS = TOP / "crates/worked_examples/data"
+COMMANDS = TOP / "crates/command_examples/data"
+TORN = re.compile(r"^hourstable: (.*):(\d+): a last line without its end was left out$", re.MULTILINE)
+SECONDS = 120
+
+
+def proved(*words: str, cwd: Path = TOP, given: bytes = b"") -> "subprocess.CompletedProcess[bytes]":
+    """Runs the proved program."""
+    return subprocess.run(
+        [needed.program(), *words], cwd=cwd, input=given, capture_output=True, check=False, timeout=SECONDS
+    )
+
+
+def written(*words: str, cwd: Path = TOP) -> str:
+    """Returns what the proved program writes."""
+    return proved(*words, cwd=cwd).stdout.decode()
+
+
+def read(lines: Iterable[Members]) -> trace.Trace:
+    return trace.read(json.dumps(it).encode() for it in lines)
+
+
+def of_script(path: Path, key: str | None = None) -> list[Members]:
+    """Returns the lines of the trace of a script, none if it is refused."""
+    ran = proved("run", str(path))
+    lines = ran.stdout.decode().splitlines()[:-1]
+    return list(script_trace(path.read_bytes(), lines, key)) if ran.returncode == 0 else []
+
+
+def of_logs(
+    folder: Path, names: list[str], key: int | None = None, drift: tuple[int, int, int] | None = None
+) -> list[Members]:
+    """Returns the lines of the trace of logs; none if they are refused."""
+    ran = proved("audit", *names, cwd=folder)
+    if ran.returncode > 1:
+        return []
+    found = TORN.findall(ran.stderr.decode())
+    torn = [frozenset(int(line) for log, line in found if log == name) for name in names]
+    texts = [(folder / name).read_bytes() for name in names]
+    return list(Logs(Asked(names, texts, torn, key, drift)).trace())
+
+
+def keys_of(path: Path) -> list[str]:
+    """Returns the keys that a script names."""
+    steps = json.loads(path.read_bytes())[1:]
+    return sorted({it["key"] for it in steps if it.get("do") in ("serve", "hold", "look")})
+
+
+def stand_in(folder: Path) -> dict[str, str]:
+    """Makes a program that has `trace`, and returns the environment in which hourstable-show runs it."""
+    program = folder / "hourstable"
+    program.write_text(f'#!/bin/sh\nexec "{sys.executable}" -B -m stand_in.program "$@"\n', encoding="utf-8")
+    program.chmod(0o755)
+    path = f"{TOP / 'python'}:{TOP / 'python/tests'}"
+    named = {"HOURSTABLE_PROVED": needed.program(), "HOURSTABLE_PROGRAM": str(program), "PYTHONPATH": path}
+    return {**os.environ, **named, "PYTHONDONTWRITEBYTECODE": "1"}
+
+
+def show(
+    environment: dict[str, str], *words: str, cwd: Path = TOP, given: bytes = b""
+) -> "subprocess.CompletedProcess[bytes]":
+    """Runs hourstable-show."""
+    return subprocess.run(
+        [sys.executable, "-B", "-m", "hourstable.show", *words], cwd=cwd, input=given, capture_output=True,
+        check=False, env=environment, timeout=SECONDS,
+    )

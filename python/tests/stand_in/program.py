@@ -1,0 +1,89 @@
+"""A program in place of `hourstable`, which has `trace`: the proved program reads and refuses its input, the machines
+of the library say what decides. HOURSTABLE_PROVED names the proved program.
+
+usage: program.py trace [--key KEY | --slice-key NUMBER] [FILE]
+       program.py trace [--no-calls] [--drift EXTRA/PER/GRAIN] [--key KEY | --slice-key NUMBER] --logs LOG..
+"""
+
+from __future__ import annotations
+
+import argparse
+import json
+import os
+import re
+import subprocess
+import sys
+from collections.abc import Iterator
+from pathlib import Path
+
+from hourstable.library import slice_key
+
+from stand_in.logs import Asked, Logs
+from stand_in.scripts import script_trace
+from stand_in.tasks import Members
+
+TORN = re.compile(r"^hourstable: (.*):(\d+): a last line without its end was left out$", re.MULTILINE)
+
+
+def parser() -> argparse.ArgumentParser:
+    made = argparse.ArgumentParser(prog="hourstable")
+    words = made.add_subparsers(required=True).add_parser("trace")
+    words.add_argument("--key")
+    words.add_argument("--slice-key")
+    words.add_argument("--no-calls", action="store_true")
+    words.add_argument("--drift")
+    words.add_argument("--logs", nargs="+", default=[])
+    words.add_argument("file", nargs="?", default="-")
+    return made
+
+
+def proved(words: list[str], given: bytes) -> "subprocess.CompletedProcess[bytes]":
+    """Runs the proved program, says what it says, and ends if it refuses its input."""
+    ran = subprocess.run([os.environ["HOURSTABLE_PROVED"], *words], input=given, capture_output=True, check=False)
+    sys.stderr.buffer.write(ran.stderr)
+    sys.stderr.flush()
+    if ran.returncode > 1:
+        sys.exit(ran.returncode)
+    return ran
+
+
+def of_script(chosen: argparse.Namespace) -> Iterator[Members]:
+    if chosen.file == "-":
+        text = sys.stdin.buffer.read()
+        ran = proved(["run"], text)
+    else:
+        ran = proved(["run", chosen.file], b"")
+        text = Path(chosen.file).read_bytes()
+    return script_trace(text, ran.stdout.decode().splitlines()[:-1], chosen.key)
+
+
+def of_logs(chosen: argparse.Namespace) -> Iterator[Members]:
+    given = sys.stdin.buffer.read() if "-" in chosen.logs else b""
+    drift = [] if chosen.drift is None else [f"--drift={chosen.drift}"]
+    said = proved(["audit", *drift, *chosen.logs], given).stderr.decode()
+    found = TORN.findall(said)
+    torn = [frozenset(int(line) for name, line in found if name == log) for log in chosen.logs]
+    texts = [given if name == "-" else Path(name).read_bytes() for name in chosen.logs]
+    key = None if chosen.slice_key is None else int(chosen.slice_key)
+    if chosen.key is not None:
+        key = slice_key(chosen.key.encode())
+    numbers = None
+    if chosen.drift is not None:
+        extra, per, grain = map(int, chosen.drift.split("/"))
+        numbers = (extra, per, grain)
+    trace = Logs(Asked(chosen.logs, texts, torn, key, numbers, chosen.key)).trace()
+    left_out = ("call", "stretch", "broken") if chosen.no_calls else ()
+    return (it for it in trace if not any(name in it for name in left_out))
+
+
+def main(words: list[str]) -> int:
+    chosen = parser().parse_args(words)
+    end: Members = {}
+    for line in of_logs(chosen) if chosen.logs else of_script(chosen):
+        sys.stdout.write(f"{json.dumps(line, separators=(',', ':'))}\n")
+        end = line.get("end", end)
+    return 0 if end.get("verdict", "one") == "one" else 1
+
+
+if __name__ == "__main__":
+    sys.exit(main(sys.argv[1:]))

@@ -1,0 +1,284 @@
+"""The page that hourstable-show writes, in a headless Chromium: it opens at a fault, zooms, finds and tells."""
+
+from __future__ import annotations
+
+import json
+import os
+from collections.abc import AsyncIterator
+from contextlib import asynccontextmanager
+from html.parser import HTMLParser
+from pathlib import Path
+
+import pytest
+
+import needed
+
+needed.library()
+
+import browser  # noqa: E402
+from hourstable.library import slice_key  # noqa: E402
+from hourstable.show import trace, viewer, views  # noqa: E402
+from hourstable.show.trace import (  # noqa: E402
+    Call, End, Head, Lease, Members, Owners, Place, Reason, Rule, Trace,
+)
+from showing import COMMANDS, SCRIPTS, of_logs, of_script, read  # noqa: E402
+
+HELLO = slice_key(b"hello")
+MOVE = ["move-table.jsonl", "move-task-1.jsonl", "move-task-2.jsonl", "move-client.jsonl"]
+HOSTILE = "</script><img src=x onerror=document.title='owned'>.jsonl"
+JOB = {"redundancy": 1, "skew": 0, "guard": 10_000, "bridge": 10_000, "job": 30_000, "numbers": 1 << 32,
+       "assigners": 1, "tasks": 20, "clerks": 1}
+MANY = 100_000
+FIRST_PICTURE = 2.0  # seconds of one processor, from an empty tab to a picture of MANY calls
+FRAME = 0.1  # seconds of one processor for a picture after that
+
+
+class Loaded(HTMLParser):
+    """Finds what a page would load or run that is not in it."""
+
+    def __init__(self) -> None:
+        super().__init__()
+        self.found: list[str] = []
+        self.policy = ""
+
+    def handle_starttag(self, tag: str, attrs: list[tuple[str, str | None]]) -> None:
+        names = dict(attrs)
+        self.found += [f"{tag} {name}" for name in names if name in ("src", "href", "style") or name.startswith("on")]
+        if names.get("http-equiv") == "Content-Security-Policy":
+            self.policy = names["content"] or ""
+
+
+def whole(found: Trace) -> views.Window:
+    return views.Window(0, len(found.calls) + len(found.rest))
+
+
+def page_of(found: Trace) -> str:
+    return viewer.page(found, whole(found))
+
+
+@asynccontextmanager
+async def opened(path: Path, text: str) -> AsyncIterator[browser.Tab]:
+    """A browser with the page, drawn."""
+    path.write_text(text, encoding="utf-8")
+    async with browser.browser() as tab:
+        await tab.size(1200, 700)
+        await tab.open(path.as_uri())
+        await tab.until("document.body.dataset.ready === 'yes'")
+        yield tab
+        assert tab.faults == []
+
+
+@pytest.fixture(autouse=True)
+def has_browser() -> None:
+    if browser.missing():
+        pytest.fail(browser.missing(), pytrace=False)
+
+
+async def span(tab: browser.Tab) -> tuple[float, float]:
+    """Draws the page, and returns the readings that are in view."""
+    await tab.value("draw()")
+    found = await tab.value("JSON.stringify(canvas.dataset)")
+    return float(json.loads(found)["from"]), float(json.loads(found)["to"])
+
+
+async def key(tab: browser.Tab, name: str) -> None:
+    await tab.do("Input.dispatchKeyEvent", type="keyDown", key=name, text=name if len(name) == 1 else "")
+    await tab.do("Input.dispatchKeyEvent", type="keyUp", key=name)
+
+
+async def mouse(tab: browser.Tab, kind: str, left: float, top: float, **more: object) -> None:
+    button = {} if kind == "mouseWheel" else {"button": "left", "buttons": 1, "clickCount": 1}
+    await tab.do("Input.dispatchMouseEvent", type=kind, x=left, y=top, **button, **more)
+
+
+async def told(tab: browser.Tab, part: str) -> str:
+    found: str = await tab.value(f"document.getElementById({part!r}).textContent")
+    return found
+
+
+async def picture(tab: browser.Tab, folder: Path, name: str) -> None:
+    """Takes a picture, for the docs if HOURSTABLE_PICTURES names their folder."""
+    path = Path(os.environ.get("HOURSTABLE_PICTURES") or folder) / name
+    await tab.picture(path)
+    assert path.stat().st_size > 10_000
+
+
+def test_a_page_loads_nothing() -> None:
+    text = page_of(read(of_logs(COMMANDS, MOVE, HELLO)))
+    page = Loaded()
+    page.feed(text)
+    assert page.found == []
+    policy = page.policy.split("; ")
+    assert policy[0] == "default-src 'none'" and len(policy) == 3 and "unsafe" not in page.policy
+    assert text == page_of(read(of_logs(COMMANDS, MOVE, HELLO))), "the same trace makes another page"
+
+
+def test_generations_are_bands_from_one_commit_to_the_next() -> None:
+    found = read(of_script(SCRIPTS / "bridge-carries-a-key-over-a-change.json"))
+    commits = [it for it in found.calls if it.word == "committed"]
+    assert len(commits) > 1
+    ends = [*(it.at for it in commits[1:]), None]
+    value = viewer.Data(found, whole(found)).value()
+    base = int(value["base"])
+    assert value["bands"] == [
+        [(it.at or 0) - base, None if end is None else end - base, it.reply["generation"]]
+        for it, end in zip(commits, ends)
+    ]
+
+
+async def test_it_opens_at_the_fault(tmp_path: Path) -> None:
+    found = read(of_logs(COMMANDS, ["served-at-the-deadline.jsonl"], HELLO))
+    async with opened(tmp_path / "page.html", page_of(found)) as tab:
+        assert await told(tab, "reply") == 'told "served guard 1"; should be "denied ended"'
+        why = await told(tab, "why")
+        assert why.startswith("the guard lease of grant 1, heard in served-at-the-deadline.jsonl:7, covers the key")
+        assert "ended at 95; owners in generation 1" in why
+        stored = (COMMANDS / "audit-served-at-the-deadline.stdout").read_text()
+        assert await told(tab, "report") == stored
+        await tab.value("document.querySelector('#links button').click()")
+        assert (await told(tab, "what")).startswith("hear task 1 grant 1")
+
+
+async def test_it_zooms_and_moves(tmp_path: Path) -> None:
+    async with opened(tmp_path / "page.html", page_of(read(of_logs(COMMANDS, MOVE, HELLO)))) as tab:
+        first = await span(tab)
+        await key(tab, "+")
+        nearer = await span(tab)
+        assert nearer[1] - nearer[0] == pytest.approx((first[1] - first[0]) / 2)
+        await key(tab, "ArrowRight")
+        right = await span(tab)
+        assert right[0] > nearer[0] and right[1] - right[0] == pytest.approx(nearer[1] - nearer[0])
+        await mouse(tab, "mousePressed", 500, 200)
+        await mouse(tab, "mouseMoved", 700, 200)
+        await mouse(tab, "mouseReleased", 700, 200)
+        assert (await span(tab))[0] < right[0]
+        before = await span(tab)
+        await mouse(tab, "mouseWheel", 500, 200, deltaX=0, deltaY=120)
+        after = await span(tab)
+        assert after[1] - after[0] > before[1] - before[0]
+        await key(tab, "0")
+        assert await span(tab) == pytest.approx(first)
+
+
+async def test_clocks_that_begin_late_fill_the_picture(tmp_path: Path) -> None:
+    begun = 1 << 60
+    calls = [
+        Call(Place(1, 0, 1), "open", {"task": 1, "life": 0}, {"reply": "opened", "life": 0}),
+        Call(Place(2, 0, 2), "start", {"task": 1, "life": 1, "at": begun + 1}, {"reply": "started", "life": 1}),
+        Call(Place(3, 0, 3), "start", {"task": 1, "life": 2, "at": begun + 101}, {"reply": "started", "life": 2}),
+    ]
+    page = page_of(Trace(Head(True, JOB, ("task-1.jsonl",)), End(3), calls))
+    async with opened(tmp_path / "page.html", page) as tab:
+        first, end = await span(tab)
+        assert -10 < first <= 0 and 100 < end < 120
+        assert await tab.value("data.base") == str(begun + 1)
+        await key(tab, "n")
+        assert await told(tab, "what") == "open task 1 life 0"
+        assert await told(tab, "where") == f"task-1.jsonl:1, at {begun + 1}"
+
+
+async def test_a_click_tells_the_reason(tmp_path: Path) -> None:
+    found = read(of_script(SCRIPTS / "bridge-carries-a-key-over-a-change.json", "hello"))
+    async with opened(tmp_path / "page.html", page_of(found)) as tab:
+        # A served request, where its mark is drawn.
+        at = await tab.value(
+            "(() => { const index = data.columns.kind.indexOf(0), box = canvas.getBoundingClientRect();"
+            " return [box.left + x(data.columns.at[index]), box.top + middleOf(index), data.columns.what[index]];"
+            " })()"
+        )
+        await mouse(tab, "mousePressed", at[0], at[1])
+        await mouse(tab, "mouseReleased", at[0], at[1])
+        assert await told(tab, "what") == at[2]
+        assert (await told(tab, "reply")).startswith("served ")
+        assert "covers the key until" in await told(tab, "why") and "owners in generation" in await told(tab, "why")
+        await key(tab, "n")
+        assert await told(tab, "what") != at[2]
+        await key(tab, "Escape")
+        assert await told(tab, "what") == "Nothing is selected"
+
+
+async def test_it_finds_keys_tasks_tickets_and_refusals(tmp_path: Path) -> None:
+    found = read(of_logs(COMMANDS, MOVE))
+    keyed = sum(it.slice_key == HELLO for it in found.calls)
+    denied = sum(it.word == "denied" for it in found.calls)
+    ended = sum(it.ground == "held" for it in found.calls)
+    async with opened(tmp_path / "page.html", page_of(found)) as tab:
+        wanted = ((str(HELLO), keyed), (": denied ", denied), ("refused held", ended), ("no such call", 0))
+        for words, many in wanted:
+            await key(tab, "/")
+            await tab.value("document.getElementById('words').value = ''")
+            await tab.type(words)
+            assert await told(tab, "matches") == f"{many} found", words
+        await tab.value("document.getElementById('words').value = ''")
+        await tab.type("denied not-owned")
+        await tab.press("Enter")
+        assert (await told(tab, "reply")).startswith("denied not-owned")
+        assert (await told(tab, "matches")).startswith("1 of ")
+
+
+async def test_hostile_words_are_text(tmp_path: Path) -> None:
+    found = read(of_logs(COMMANDS, ["served-at-the-deadline.jsonl"]))
+    found.head = Head(True, found.head.job, (HOSTILE,))
+    found.faults = [trace.Fault(it.call, f"served {HOSTILE}") for it in found.faults]
+    async with opened(tmp_path / "page.html", page_of(found)) as tab:
+        assert "<img src=x" in await told(tab, "where") and "<img src=x" in await told(tab, "reply")
+        assert await tab.value("document.images.length") == 0
+        assert await tab.value("document.title") != "owned"
+
+
+async def test_it_is_light_dark_and_printed(tmp_path: Path) -> None:
+    pixel = "[...pen.getImageData(canvas.width - 3, canvas.height - 3, 1, 1).data].slice(0, 3)"
+    async with opened(tmp_path / "page.html", page_of(read(of_logs(COMMANDS, MOVE, HELLO)))) as tab:
+        denied = "data.columns.reply.findLastIndex((it) => it.startsWith('denied not-owned'))"
+        await tab.value(f"look(0, 60); pick({denied}); draw()")
+        await tab.scheme("light")
+        await tab.until(f"{pixel}.every((it) => it > 220)")
+        await picture(tab, tmp_path, "trace-light.png")
+        await tab.scheme("dark")
+        await tab.until(f"{pixel}.every((it) => it < 60)")
+        await picture(tab, tmp_path, "trace-dark.png")
+        await tab.do("Emulation.setEmulatedMedia", media="print",
+                     features=[{"name": "prefers-color-scheme", "value": "dark"}])
+        await tab.until(f"{pixel}.every((it) => it > 220)")
+        assert await tab.value("getComputedStyle(document.getElementById('search')).display") == "none"
+
+
+def many_calls() -> Trace:
+    """Returns a trace of many requests to 20 tasks, each with a reason."""
+    calls, owners = [], Owners(1, (1,))
+    for number in range(1, MANY + 1):
+        task, at = number % 20 + 1, number * 3
+        place = Place(number, task, number // 20 + 1)
+        members = {"task": task, "slice_key": number * 7919, "at": at, "ticket": number}
+        rule = Rule(True, at - 1, (Lease("guard", task, 1, 1 << 40, number % 10 > 0, None),), None)
+        answer: Members = {"reply": "served", "kind": "guard"} if number % 10 else {"denied": "not-owned"}
+        rule = rule._replace(decides=rule.leases[0])
+        reply = {**answer, "generation": 1}
+        calls.append(Call(place, "serve", members, reply, Reason(rule=rule, owners=owners)))
+    logs = ("table.jsonl", *(f"task-{it}.jsonl" for it in range(1, 21)))
+    return Trace(Head(True, JOB, logs), End(MANY), calls)
+
+
+async def spent(tab: browser.Tab) -> float:
+    """Returns how many seconds of a processor the page has taken."""
+    metrics = (await tab.do("Performance.getMetrics"))["metrics"]
+    return float(next(it["value"] for it in metrics if it["name"] == "TaskDuration"))
+
+
+async def test_many_calls_stay_fluent(tmp_path: Path) -> None:
+    path = tmp_path / "page.html"
+    path.write_text(page_of(many_calls()), encoding="utf-8")
+    async with browser.browser() as tab:
+        await tab.size(1200, 900)
+        await tab.do("Performance.setTimeDomain", timeDomain="threadTicks")
+        await tab.do("Performance.enable", timeDomain="threadTicks")
+        before = await spent(tab)
+        await tab.open(path.as_uri())
+        await tab.until("document.body.dataset.ready === 'yes'")
+        drawn = await spent(tab)
+        assert int(await tab.value("canvas.dataset.drawn")) >= MANY
+        for by in (0.1, -0.1, 0.1, -0.1):
+            await tab.value(f"pan({by}); draw()")
+        moved = await spent(tab)
+        assert drawn - before < FIRST_PICTURE
+        assert (moved - drawn) / 8 < FRAME  # one that was asked for, and one by the next frame
