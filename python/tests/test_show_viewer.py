@@ -4,7 +4,7 @@ from __future__ import annotations
 
 import json
 import os
-from collections.abc import AsyncIterator
+from collections.abc import AsyncIterator, Iterator
 from contextlib import asynccontextmanager
 from html.parser import HTMLParser
 from pathlib import Path
@@ -96,6 +96,20 @@ async def told(tab: browser.Tab, part: str) -> str:
     return found
 
 
+async def links(tab: browser.Tab, words: str) -> None:
+    """Follows the link of these words beside what is chosen."""
+    found = await tab.value("[...document.querySelectorAll('#links button')].map((it) => it.textContent)")
+    assert words in found, found
+    await tab.value(f"document.querySelectorAll('#links button')[{found.index(words)}].click()")
+
+
+async def click(tab: browser.Tab, left: float, top: float) -> None:
+    """Clicks on a place of the picture."""
+    box = await tab.value("(() => { const box = canvas.getBoundingClientRect(); return [box.left, box.top]; })()")
+    await mouse(tab, "mousePressed", box[0] + left, box[1] + top)
+    await mouse(tab, "mouseReleased", box[0] + left, box[1] + top)
+
+
 async def picture(tab: browser.Tab, folder: Path, name: str) -> None:
     """Takes a picture, for the docs if HOURSTABLE_PICTURES names their folder."""
     path = Path(os.environ.get("HOURSTABLE_PICTURES") or folder) / name
@@ -131,12 +145,25 @@ async def test_it_opens_at_the_fault(tmp_path: Path) -> None:
     async with opened(tmp_path / "page.html", page_of(found)) as tab:
         assert await told(tab, "reply") == 'told "served guard 1"; should be "denied ended"'
         why = await told(tab, "why")
-        assert why.startswith("the guard lease of grant 1, heard in served-at-the-deadline.jsonl:7, covers the key")
+        assert why.startswith("The guard lease of grant 1, heard in served-at-the-deadline.jsonl:7, covers the key")
         assert "ended at 95; owners in generation 1" in why
+        first, end = await span(tab)
+        assert first < 0 and end > 95, "calls near the fault are not in view"
         stored = (COMMANDS / "audit-served-at-the-deadline.stdout").read_text()
         assert await told(tab, "report") == stored
-        await tab.value("document.querySelector('#links button').click()")
+        assert await tab.value("chosenGrant") == 1
+        await links(tab, "Where it was heard")
         assert (await told(tab, "what")).startswith("hear task 1 grant 1")
+        await links(tab, "Who sent this grant")
+        assert (await told(tab, "what")).startswith("grant task 1")
+        await key(tab, "f")
+        assert (await told(tab, "reply")).startswith('told "served guard 1"')
+
+
+async def test_without_a_fault_there_is_no_button_for_it(tmp_path: Path) -> None:
+    async with opened(tmp_path / "page.html", page_of(read(of_logs(COMMANDS, MOVE)))) as tab:
+        assert await tab.value("getComputedStyle(document.getElementById('fault')).display") == "none"
+        assert await told(tab, "what") == "Nothing is selected"
 
 
 async def test_it_zooms_and_moves(tmp_path: Path) -> None:
@@ -180,21 +207,69 @@ async def test_clocks_that_begin_late_fill_the_picture(tmp_path: Path) -> None:
 async def test_a_click_tells_the_reason(tmp_path: Path) -> None:
     found = read(of_script(SCRIPTS / "bridge-carries-a-key-over-a-change.json", "hello"))
     async with opened(tmp_path / "page.html", page_of(found)) as tab:
-        # A served request, where its mark is drawn.
-        at = await tab.value(
-            "(() => { const index = data.columns.kind.indexOf(0), box = canvas.getBoundingClientRect();"
-            " return [box.left + x(data.columns.at[index]), box.top + middleOf(index), data.columns.what[index]];"
-            " })()"
-        )
-        await mouse(tab, "mousePressed", at[0], at[1])
-        await mouse(tab, "mouseReleased", at[0], at[1])
-        assert await told(tab, "what") == at[2]
+        index = await tab.value("data.columns.kind.indexOf(0)")  # a request that is served
+        what = await tab.value(f"data.columns.what[{index}]")
+        await click(tab, await tab.value(f"x(data.columns.at[{index}])"), await tab.value(f"middleOf({index})"))
+        assert await told(tab, "what") == what
         assert (await told(tab, "reply")).startswith("served ")
-        assert "covers the key until" in await told(tab, "why") and "owners in generation" in await told(tab, "why")
+        why = await told(tab, "why")
+        assert "covers the key until" in why and "owners in generation" in why
+        reason = next(it.reason for it in found.calls if it.word == "served")
+        assert reason and reason.rule and reason.rule.decides
+        assert await tab.value("chosenGrant") == reason.rule.decides.number
         await key(tab, "n")
-        assert await told(tab, "what") != at[2]
+        assert await told(tab, "what") != what
         await key(tab, "Escape")
-        assert await told(tab, "what") == "Nothing is selected"
+        assert await told(tab, "what") == "Nothing is selected" and await tab.value("chosenGrant") == 0
+
+
+async def test_a_click_on_a_lease_tells_what_happened_to_it(tmp_path: Path) -> None:
+    found = read(of_script(SCRIPTS / "bridge-carries-a-key-over-a-change.json", "hello"))
+    grant = next(it for it in found.calls if it.word == "grant" and it.reply["kind"] == "bridge")
+    heard = next(it for it in found.calls if it.word == "heard" and it.reply["number"] == grant.reply["number"])
+    number, ends = grant.reply["number"], grant.reply["ends"]
+    async with opened(tmp_path / "page.html", page_of(found)) as tab:
+        y = await tab.value(f"leaseOf({number}).row.y + ROW / 2")
+        await click(tab, await tab.value(f"x({heard.at} + 2)"), y)
+        assert await told(tab, "what") == f"grant {number}, generation {grant.reply['generation']}"
+        why = await told(tab, "why")
+        assert f"heard at {heard.at}" in why and f"it ends at {ends} for the task" in why
+        assert await tab.value("chosenGrant") == number
+        await click(tab, await tab.value(f"x({heard.at} + 2)"), await tab.value("leaseOf(1).lane.y + 4"))
+        stretch = next(it for it in found.stretches if it.first <= (heard.at or 0) + 2 < it.end)
+        assert await told(tab, "what") == "task 1 may serve the key"
+        assert f"from {stretch.first} to {stretch.end}" in await told(tab, "why")
+        assert await tab.value("chosenGrant") == stretch.lease["number"]
+
+
+def test_messages_are_arrows_from_who_sent_them() -> None:
+    found = read(of_logs(COMMANDS, MOVE))
+    value = viewer.Data(found, whole(found)).value()
+    sent = {it.reply["number"]: it.place.call for it in found.calls if it.word == "grant"}
+    freed = [it for it in found.calls if it.word == "freed" and it.members["note"]["number"] < trace.ENDED_LIFE]
+    released = {(it.task, it.reply["number"]): it.place.call for it in found.calls if it.word == "released"}
+    wanted = [(sent[it.reply["number"]], it.place.call, 0) for it in found.calls if it.word == "heard"]
+    wanted += [
+        (released[it.members["note"]["task"], it.members["note"]["number"]], it.place.call, 1) for it in freed
+    ]
+    assert len(wanted) > 4
+    numbers = value["columns"]["number"]
+    told = [(numbers[sender], numbers[receiver], kind) for sender, receiver, kind in value["arrows"] if kind < 2]
+    assert sorted(told) == sorted(wanted)
+
+
+async def test_calls_at_one_reading_stand_apart(tmp_path: Path) -> None:
+    calls = [
+        Call(Place(it, 0, it), "serve", {"task": 1, "slice_key": it, "at": 5}, {"denied": "down"}, None)
+        for it in range(1, 4)
+    ]
+    page = page_of(Trace(Head(True, JOB, ("task-1.jsonl",)), End(3), calls))
+    async with opened(tmp_path / "page.html", page) as tab:
+        heights = await tab.value("[0, 1, 2].map(middleOf)")
+        assert heights[0] + 4 <= heights[1] and heights[1] + 4 <= heights[2]
+        for index, it in enumerate(calls):
+            await click(tab, await tab.value(f"x(data.columns.at[{index}])"), heights[index])
+            assert await told(tab, "what") == f"serve task 1 slice_key {it.slice_key} at 5"
 
 
 async def test_it_finds_keys_tasks_tickets_and_refusals(tmp_path: Path) -> None:
@@ -210,10 +285,33 @@ async def test_it_finds_keys_tasks_tickets_and_refusals(tmp_path: Path) -> None:
             await tab.type(words)
             assert await told(tab, "matches") == f"{many} found", words
         await tab.value("document.getElementById('words').value = ''")
+        await tab.type("not-owned task 2")  # in no phrase of its own
+        both = sum(it.ground == "not-owned" and it.task == 2 for it in found.calls)
+        assert both and await told(tab, "matches") == f"{both} found"
+        await tab.value("document.getElementById('words').value = ''")
         await tab.type("denied not-owned")
         await tab.press("Enter")
         assert (await told(tab, "reply")).startswith("denied not-owned")
         assert (await told(tab, "matches")).startswith("1 of ")
+
+
+async def test_a_number_is_found_whole(tmp_path: Path) -> None:
+    async with opened(tmp_path / "page.html", page_of(many_calls(2_000))) as tab:
+        for words, wanted in (("task 2", 2), ("task 20", 20)):
+            found = await tab.value(f"search({words!r}), matches.map((it) => data.lanes[data.columns.lane[it]])")
+            assert set(found) == {f"task {wanted}", "table"}, words  # the table's grants name their tasks
+        assert await tab.value("search('ticket 77'), matches.map((it) => data.columns.ticket[it])") == ["77"]
+
+
+async def test_a_call_that_is_gone_to_is_in_view(tmp_path: Path) -> None:
+    async with opened(tmp_path / "page.html", page_of(many_calls(2_000))) as tab:
+        last = await tab.value("data.columns.lane.findLastIndex((it) => data.lanes[it] === 'task 20')")
+        assert await tab.value(f"middleOf({last}) > box.clientHeight"), "all lanes are in view at once"
+        await tab.value(f"pick({last}), draw()")
+        assert await tab.value(f"TOP < middleOf({last}) - box.scrollTop && middleOf({last}) - box.scrollTop < high")
+        above = await tab.value("box.scrollTop")
+        await key(tab, "ArrowUp")
+        assert await tab.value("box.scrollTop") < above
 
 
 async def test_hostile_words_are_text(tmp_path: Path) -> None:
@@ -243,20 +341,49 @@ async def test_it_is_light_dark_and_printed(tmp_path: Path) -> None:
         assert await tab.value("getComputedStyle(document.getElementById('search')).display") == "none"
 
 
-def many_calls() -> Trace:
-    """Returns a trace of many requests to 20 tasks, each with a reason."""
-    calls, owners = [], Owners(1, (1,))
-    for number in range(1, MANY + 1):
-        task, at = number % 20 + 1, number * 3
-        place = Place(number, task, number // 20 + 1)
-        members = {"task": task, "slice_key": number * 7919, "at": at, "ticket": number}
-        rule = Rule(True, at - 1, (Lease("guard", task, 1, 1 << 40, number % 10 > 0, None),), None)
-        answer: Members = {"reply": "served", "kind": "guard"} if number % 10 else {"denied": "not-owned"}
-        rule = rule._replace(decides=rule.leases[0])
-        reply = {**answer, "generation": 1}
-        calls.append(Call(place, "serve", members, reply, Reason(rule=rule, owners=owners)))
+async def test_all_lanes_are_printed(tmp_path: Path) -> None:
+    async with opened(tmp_path / "page.html", page_of(many_calls(2_000))) as tab:
+        assert await tab.value("high < tall")
+        await tab.do("Emulation.setEmulatedMedia", media="print")
+        await tab.until("high === tall && canvas.clientHeight === tall")
+        await tab.do("Emulation.setEmulatedMedia", media="screen")
+        await tab.until("high < tall")
+
+
+def served(number: int, task: int, at: int, lease: Lease) -> Call:
+    """Returns a request, of which one in ten is denied."""
+    is_denied = number % 10 == 0
+    rule = Rule(True, at - 1, (lease._replace(covers=not is_denied),), None)
+    answer: Members = {"denied": "not-owned"} if is_denied else {"reply": "served", "kind": "guard"}
+    members = {"task": task, "slice_key": number * 7919, "at": at, "ticket": number}
+    reason = Reason(rule=rule._replace(decides=rule.leases[0]), owners=Owners(1, (task,)))
+    return Call(Place(number, task, number), "serve", members, {**answer, "generation": 1}, reason)
+
+
+def granted(number: int, task: int, at: int, grant: int) -> Iterator[Call]:
+    """Yields the calls by which a task renews its lease."""
+    lease: Members = {"number": grant, "kind": "guard", "generation": 1, "until": at + 10_000, "ends": at + 10_000}
+    members: Members = {"task": task, "life": 1, "at": at, "ticket": number}
+    yield Call(Place(number, 0, number), "grant", members, {"reply": "grant", **lease})
+    heard = {"task": task, "grant": {**lease, "task": task, "life": 1}, "at": at + 5, "ticket": number + 1}
+    yield Call(Place(number + 1, task, number), "hear", heard, {"reply": "heard", "number": grant})
+
+
+def many_calls(many: int) -> Trace:
+    """Returns a trace of many calls: requests to 20 tasks, each with a reason, and one call in ten renews a lease."""
+    calls: list[Call] = []
+    grant = 0
+    while len(calls) < many:
+        number, at = len(calls) + 1, len(calls) * 3
+        task = number // 20 % 20 + 1
+        if number % 20 == 1:
+            grant += 1
+            calls += granted(number, task, at, grant)
+        else:
+            lease = Lease("guard", max(grant, 1), 1, at + 10_000, True, None)
+            calls.append(served(number, number * 7 % 20 + 1, at, lease))
     logs = ("table.jsonl", *(f"task-{it}.jsonl" for it in range(1, 21)))
-    return Trace(Head(True, JOB, logs), End(MANY), calls)
+    return Trace(Head(True, JOB, logs), End(many), calls)
 
 
 async def spent(tab: browser.Tab) -> float:
@@ -267,7 +394,7 @@ async def spent(tab: browser.Tab) -> float:
 
 async def test_many_calls_stay_fluent(tmp_path: Path) -> None:
     path = tmp_path / "page.html"
-    path.write_text(page_of(many_calls()), encoding="utf-8")
+    path.write_text(page_of(many_calls(MANY)), encoding="utf-8")
     async with browser.browser() as tab:
         await tab.size(1200, 900)
         await tab.do("Performance.setTimeDomain", timeDomain="threadTicks")
@@ -276,9 +403,10 @@ async def test_many_calls_stay_fluent(tmp_path: Path) -> None:
         await tab.open(path.as_uri())
         await tab.until("document.body.dataset.ready === 'yes'")
         drawn = await spent(tab)
-        assert int(await tab.value("canvas.dataset.drawn")) >= MANY
-        for by in (0.1, -0.1, 0.1, -0.1):
-            await tab.value(f"pan({by}); draw()")
+        assert int(await tab.value("canvas.dataset.calls")) == MANY
+        moves = ("pan(0.1)", "zoom(0.5)", "lookAtAll()", "search('denied')", "nextMatch(1)", "moveDown(300)")
+        for act in moves:
+            await tab.value(f"{act}; draw()")
         moved = await spent(tab)
         assert drawn - before < FIRST_PICTURE
-        assert (moved - drawn) / 8 < FRAME  # one that was asked for, and one by the next frame
+        assert (moved - drawn) / (2 * len(moves)) < FRAME  # one that was asked for, and one by the next frame

@@ -6,6 +6,7 @@ It runs `hourstable trace`, or reads a trace that this has written.
 from __future__ import annotations
 
 import argparse
+import gc
 import subprocess
 import sys
 from collections.abc import Callable, Iterable
@@ -40,6 +41,7 @@ class Ended(Exception):
 
 def main(words: list[str] | None = None) -> int:
     """Runs the command, and returns its status."""
+    gc.disable()  # the values of a trace have no cycles, and a collection looks at all of them
     chosen = parser().parse_args(words)
     try:
         status: int = chosen.run(chosen)

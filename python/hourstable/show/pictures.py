@@ -83,16 +83,21 @@ def within(spans: Iterable[Span], span: Span) -> list[Span]:
     return [it for it in found if it.first < it.end]
 
 
+def later_readings(points: dict[tuple[int, int], list[int]], task: int, process: int) -> list[int]:
+    """Returns the first reading of each later process of a task, whose clock may count from 0 again."""
+    return [readings[0] for (by, other), readings in points.items() if by == task and other > process]
+
+
 def spans_of(trace: Trace) -> dict[int, list[Span]]:
     """Returns for each task the readings at which it may serve the key of the trace. Those of a process go on up to
-    the first reading of a later one, whose clock may count from 0 again."""
+    the first reading of a later one."""
     points = cut_points(trace.calls)
     found: dict[int, list[Span]] = {}
     by_process: dict[tuple[int, int], list[Stretch]] = {}
     for it in trace.stretches:
         by_process.setdefault((it.task, it.process), []).append(it)
     for (task, process), stretches in sorted(by_process.items()):
-        later = [readings[0] for (by, other), readings in points.items() if by == task and other > process]
+        later = later_readings(points, task, process)
         spans = pieces(joined(stretches), points.get((task, process), []))
         found.setdefault(task, []).extend(within(spans, Span(0, min(later))) if later else spans)
     return found

@@ -12,13 +12,14 @@ from typing import Any
 
 from . import report, sentences
 from .lanes import FOREVER, Item, Part
-from .pictures import is_shown, log_heading, shown_calls, spans_of
+from .pictures import cut_points, is_shown, later_readings, log_heading, shown_calls
 from .story import Lease, Story
 from .trace import TASK_CALLS, Call, Place, Trace, escaped
 from .views import Window
 from .words import line_of, plain_line
 
 STATIC = Path(__file__).with_name("static")
+SCRIPTS = ("data", "drawing", "viewer")  # in the order in which they run
 KINDS = ("served", "denied", "refused", "done", "warned", "fault", "unjudged")  # of marks, as viewer.js numbers them
 KIND_OF = {"served": 0, "continuous": 0, "found": 0, "denied": 1, "broken": 1, "refused": 2}
 ARROWS = ("grant", "note", "assignment")  # what a message is
@@ -65,10 +66,11 @@ class Data:
         """Returns the sentences on a call: why its reply is what it is, and what is warned of."""
         found = [sentences.sentence(call, self.standing) or report.why(self.trace, call).removeprefix(": ")]
         if call.untimely is not None:
-            found.append(f"the reading is more than the skew below {call.untimely}, which the table read before")
+            before = f"{call.untimely}, which the table read before"
+            found.append(f"untimely: the reading is more than the skew below {before}")
         if call.not_owner is not None:
             found.append(f"the task does not own the key in generation {call.not_owner}")
-        return ". ".join(it for it in found if it)
+        return " ".join(f"{it[0].upper()}{it[1:]}." for it in found if it)
 
     def what(self, call: Call) -> str:
         """Returns the words of a call, with its key if it is known."""
@@ -165,23 +167,28 @@ class Data:
                 item = Item([part], f"handle {handle.number}", words)
                 yield from spans_of_item(self.lane_of(call), "handles", item, 0)
 
+    def stretches(self) -> Iterator[list[int]]:
+        """Yields where tasks may serve the key: lane, from, to, and the number of the grant whose lease lets them."""
+        points = cut_points(self.trace.calls)
+        for it in self.trace.stretches:
+            end = min([it.end, *later_readings(points, it.task, it.process)])
+            if it.first < end and f"task {it.task}" in self.lanes:
+                yield [self.lanes[f"task {it.task}"], it.first, end, int(it.lease["number"])]
+
     def value(self) -> dict[str, Any]:
         """Returns the data as JSON has them. Readings are counted from the lowest one of a call."""
         for call in (*self.trace.calls, *self.trace.rest):
             self.add(call)
         fault = self.add_fault()
         spans = [*self.spans(), *self.handles()]
-        stretches = [
-            [self.lanes[f"task {task}"], *span]
-            for task, found in spans_of(self.trace).items() if f"task {task}" in self.lanes for span in found
-        ]
+        stretches = list(self.stretches())
         base = min(self.columns["at"], default=0)
         self.columns["at"] = [it - base for it in self.columns["at"]]
         return {
             "title": heading(self.trace, len(self.rows)), "base": str(base), "lanes": list(self.lanes),
             "columns": self.columns, "arrows": self.arrows, "fault": fault, "report": found_words(self.trace),
             "spans": [[*it[:3], it[3] - base, None if it[4] == FOREVER else it[4] - base, *it[5:]] for it in spans],
-            "stretches": [[lane, first - base, end - base] for lane, first, end in stretches],
+            "stretches": [[lane, first - base, end - base, number] for lane, first, end, number in stretches],
             "bands": [
                 [first - base, None if end == FOREVER else end - base, generation]
                 for first, end, generation in self.story.table.generations() if generation
@@ -212,10 +219,12 @@ def call_words(call: Call) -> str:
 
 
 def heading(trace: Trace, drawn: int) -> str:
-    if trace.head.of_logs:
-        return log_heading(trace.head, drawn, trace.end.calls)
-    key = "" if trace.head.key is None else f", key {trace.head.key}"
-    return f"Timeline of {trace.end.calls} steps{key}"
+    """Returns what the page shows. A key is named by its text if the trace has that."""
+    head, calls = trace.head, trace.end.calls
+    if head.of_logs and head.key is None:
+        return log_heading(head, drawn, calls)
+    shown = f"{drawn} of {calls} calls of logs" if head.of_logs else f"Timeline of {calls} steps"
+    return shown if head.key is None else f"{shown}, key {head.key}"
 
 
 def found_words(trace: Trace) -> str:
@@ -228,6 +237,10 @@ def found_words(trace: Trace) -> str:
     return f"timely no: {sentences.untimely_words(untimely, trace.head.job['skew'])}\n"
 
 
+def read_static(name: str) -> str:
+    return (STATIC / name).read_text(encoding="utf-8")
+
+
 def hashed(text: str) -> str:
     """Returns the hash of a script or a style by which the page allows it."""
     return f"'sha256-{base64.b64encode(hashlib.sha256(text.encode()).digest()).decode()}'"
@@ -235,11 +248,11 @@ def hashed(text: str) -> str:
 
 def page(trace: Trace, window: Window) -> str:
     """Returns the page of the calls in a window."""
-    script, style = ((STATIC / f"viewer.{it}").read_text(encoding="utf-8") for it in ("js", "css"))
+    script = "\n".join(read_static(f"{it}.js") for it in SCRIPTS)
+    style, form = read_static("viewer.css"), read_static("viewer.html")
     value = json.dumps(Data(trace, window).value(), separators=(",", ":"), ensure_ascii=True)
     packed = base64.b64encode(gzip.compress(value.encode(), 6, mtime=0)).decode()
     policy = f"default-src 'none'; script-src {hashed(script)}; style-src {hashed(style)}"
-    form = (STATIC / "viewer.html").read_text(encoding="utf-8")
     for name, text in (("POLICY", policy), ("STYLE", style), ("SCRIPT", script), ("DATA", packed)):
         form = form.replace(f"{{{{{name}}}}}", text)
     return form
