@@ -258,6 +258,31 @@ def test_there_must_be_a_program(tmp_path: Path) -> None:
     assert ran.returncode == 3 and b"No such file or directory" in ran.stderr, ran
 
 
+def test_a_program_that_traces_no_logs_is_named(tmp_path: Path) -> None:
+    environment = stand_in(tmp_path)
+    program = tmp_path / "hourstable"
+    program.write_text('#!/bin/sh\necho "Usage: hourstable trace [--key KEY] [FILE]"\n', encoding="utf-8")
+    for words in (["explain", "--logs", "it.jsonl"], ["timeline", "--logs", "it.jsonl"], ["report", "it.jsonl"]):
+        ran = show(environment, *words)
+        assert (ran.returncode, ran.stdout) == (2, b""), ran
+        assert b"error: `hourstable trace` takes no logs in this version" in ran.stderr
+        assert b"--trace FILE" in ran.stderr and b"`hourstable explain --logs`" in ran.stderr
+
+
+def test_a_call_without_its_members_is_refused(tmp_path: Path) -> None:
+    lines: list[Members] = [
+        {"trace": 1, "of": "logs", "job": {"skew": 0, "tasks": 1, "clerks": 1}, "logs": ["it.jsonl"]},
+        {"call": 1, "log": 0, "line": 2, "do": "renew", "at": "5", "reply": {"refused": "not-holder", "number": "0"}},
+        {"end": {"calls": 1, "verdict": "one"}},
+    ]
+    text = "".join(f"{json.dumps(it)}\n" for it in lines).encode()
+    ran = show(stand_in(tmp_path), "explain", "--trace", "-", given=text)
+    assert (ran.returncode, ran.stdout) == (3, b"")
+    assert ran.stderr == (
+        b"hourstable-show: the trace cannot be read: call 1 lacks a member, or has one of another kind: KeyError('term')\n"
+    )
+
+
 def test_what_ends_with_a_failure_of_the_program_has_its_status(tmp_path: Path) -> None:
     environment = stand_in(tmp_path)
     program = tmp_path / "hourstable"

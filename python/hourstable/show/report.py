@@ -4,7 +4,7 @@ from __future__ import annotations
 
 from collections.abc import Callable, Iterable
 
-from .trace import TASK_CLOCK, Call, End, Fault, Lease, Members, Place, Trace, escaped
+from .trace import TASK_CLOCK, Call, End, Fault, Lease, Members, Place, Trace, Unreadable, escaped
 from .words import plain_line
 
 CALLS = {  # what names a call, after its word; what it delivers is named by its numbers alone
@@ -33,9 +33,12 @@ MISSING = "lines of the table may be missing before this call, or a second table
 
 
 def call_words(call: Call) -> str:
-    """Returns the word of a call, and its members with their names."""
+    """Returns the word of a call, and its members with their names, or raises Unreadable if it lacks one."""
     form = CALLS.get(call.do)
-    return f"{call.do} {form.format(**call.members)}" if form else call.do
+    try:
+        return f"{call.do} {form.format(**call.members)}" if form else call.do
+    except (KeyError, TypeError) as why:
+        raise Unreadable(f"call {call.place.call} lacks a member, or has one of another kind: {why!r}") from None
 
 
 def lease_words(lease: Lease, at: int) -> str:

@@ -14,7 +14,7 @@ from . import report, sentences
 from .lanes import FOREVER, Item, Part
 from .pictures import cut_points, is_shown, later_readings, log_heading, shown_calls
 from .story import Lease, Story
-from .trace import TASK_CALLS, Call, Place, Trace, escaped
+from .trace import TASK_CALLS, Call, Place, Trace, Unreadable, escaped
 from .views import Window
 from .words import line_of, plain_line
 
@@ -213,7 +213,7 @@ def call_words(call: Call) -> str:
         return f"{call.do} assigner {members['assigner']} at {call.at}"
     try:
         return report.call_words(call)
-    except (KeyError, TypeError):  # a step that delivers what was not made
+    except Unreadable:  # a step that delivers what was not made
         told = (f"{name} {members[name]}" for name in ("task", "clerk", "number", "at") if name in members)
         return " ".join([call.do, *told])
 
