@@ -1,4 +1,4 @@
-"""Traces for tests: of scripts and of logs, by the stand-in for `hourstable trace`."""
+"""Traces for tests: of scripts by `hourstable trace`, and of logs by its stand-in."""
 
 from __future__ import annotations
 
@@ -14,7 +14,6 @@ import needed
 
 from hourstable.show import trace
 from stand_in.logs import Asked, Logs
-from stand_in.scripts import script_trace
 from stand_in.tasks import Members
 
 TOP = Path(__file__).resolve().parents[2]
@@ -42,9 +41,8 @@ def read(lines: Iterable[Members]) -> trace.Trace:
 
 def of_script(path: Path, key: str | None = None) -> list[Members]:
     """Returns the lines of the trace of a script, none if it is refused."""
-    ran = proved("run", str(path))
-    lines = ran.stdout.decode().splitlines()[:-1]
-    return list(script_trace(path.read_bytes(), lines, key)) if ran.returncode == 0 else []
+    ran = proved("trace", *([] if key is None else [f"--key={key}"]), str(path))
+    return [json.loads(line) for line in ran.stdout.splitlines()] if ran.returncode == 0 else []
 
 
 def of_logs(
@@ -67,7 +65,7 @@ def keys_of(path: Path) -> list[str]:
 
 
 def stand_in(folder: Path) -> dict[str, str]:
-    """Makes a program that has `trace`, and returns the environment in which hourstable-show runs it."""
+    """Makes a program whose `trace` takes logs too, and returns the environment in which hourstable-show runs it."""
     program = folder / "hourstable"
     program.write_text(f'#!/bin/sh\nexec "{sys.executable}" -B -m stand_in.program "$@"\n', encoding="utf-8")
     program.chmod(0o755)

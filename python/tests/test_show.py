@@ -279,7 +279,8 @@ def test_a_call_without_its_members_is_refused(tmp_path: Path) -> None:
     ran = show(stand_in(tmp_path), "explain", "--trace", "-", given=text)
     assert (ran.returncode, ran.stdout) == (3, b"")
     assert ran.stderr == (
-        b"hourstable-show: the trace cannot be read: call 1 lacks a member, or has one of another kind: KeyError('term')\n"
+        b"hourstable-show: the trace cannot be read: call 1 lacks a member, or has one of another kind:"
+        b" KeyError('term')\n"
     )
 
 

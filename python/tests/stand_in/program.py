@@ -1,7 +1,7 @@
-"""A program in place of `hourstable`, which has `trace`: the proved program reads and refuses its input, the machines
-of the library say what decides. HOURSTABLE_PROVED names the proved program.
+"""A program in place of `hourstable`, whose `trace` takes logs too: the proved program reads and refuses them, and
+the machines of the library say what decides. HOURSTABLE_PROVED names the proved program, which traces scripts itself.
 
-usage: program.py trace [--key KEY | --slice-key NUMBER] [FILE]
+usage: program.py trace [--key KEY] [FILE]
        program.py trace [--no-calls] [--drift EXTRA/PER/GRAIN] [--key KEY | --slice-key NUMBER] --logs LOG..
 """
 
@@ -19,7 +19,6 @@ from pathlib import Path
 from hourstable.library import slice_key
 
 from stand_in.logs import Asked, Logs
-from stand_in.scripts import script_trace
 from stand_in.tasks import Members
 
 TORN = re.compile(r"^hourstable: (.*):(\d+): a last line without its end was left out$", re.MULTILINE)
@@ -47,16 +46,6 @@ def proved(words: list[str], given: bytes) -> "subprocess.CompletedProcess[bytes
     return ran
 
 
-def of_script(chosen: argparse.Namespace) -> Iterator[Members]:
-    if chosen.file == "-":
-        text = sys.stdin.buffer.read()
-        ran = proved(["run"], text)
-    else:
-        ran = proved(["run", chosen.file], b"")
-        text = Path(chosen.file).read_bytes()
-    return script_trace(text, ran.stdout.decode().splitlines()[:-1], chosen.key)
-
-
 def of_logs(chosen: argparse.Namespace) -> Iterator[Members]:
     given = sys.stdin.buffer.read() if "-" in chosen.logs else b""
     drift = [] if chosen.drift is None else [f"--drift={chosen.drift}"]
@@ -78,8 +67,11 @@ def of_logs(chosen: argparse.Namespace) -> Iterator[Members]:
 
 def main(words: list[str]) -> int:
     chosen = parser().parse_args(words)
+    if not chosen.logs:
+        program = os.environ["HOURSTABLE_PROVED"]
+        os.execv(program, [program, *words])
     end: Members = {}
-    for line in of_logs(chosen) if chosen.logs else of_script(chosen):
+    for line in of_logs(chosen):
         sys.stdout.write(f"{json.dumps(line, separators=(',', ':'))}\n")
         end = line.get("end", end)
     return 0 if end.get("verdict", "one") == "one" else 1
