@@ -1,7 +1,7 @@
 """The command hourstable-show: explains and draws scripts and logs, and tells the report of an audit.
 
-It runs `hourstable trace`, or reads with --trace what that has written. Where `hourstable trace` does not take logs, it
-refuses them, and shows logs by --trace alone.
+It runs `hourstable trace`, or reads with --trace what that has written. Where `hourstable trace` does not take logs,
+it refuses them, and shows logs by --trace alone.
 """
 
 from __future__ import annotations
@@ -139,10 +139,8 @@ def program() -> str:
 def takes_logs() -> bool:
     """Whether `hourstable trace` says that it takes logs. One that cannot say so is left to refuse them itself."""
     words = [program(), "trace", "--help"]
-    ran = subprocess.run(
-        words, stdin=subprocess.DEVNULL, capture_output=True, text=True, errors="replace", check=False, timeout=PATIENCE
-    )
-    return bool(ran.returncode) or "--logs" in ran.stdout
+    ran = subprocess.run(words, stdin=subprocess.DEVNULL, capture_output=True, check=False, timeout=PATIENCE)
+    return bool(ran.returncode) or b"--logs" in ran.stdout
 
 
 def traced_logs(words: Iterable[str]) -> Trace:
