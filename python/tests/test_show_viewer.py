@@ -4,6 +4,7 @@ from __future__ import annotations
 
 import json
 import os
+import re
 from collections.abc import AsyncIterator, Iterator
 from contextlib import asynccontextmanager
 from html.parser import HTMLParser
@@ -223,6 +224,18 @@ async def test_a_click_tells_the_reason(tmp_path: Path) -> None:
         assert await told(tab, "what") == "Nothing is selected" and await tab.value("chosenGrant") == 0
 
 
+async def test_a_broken_handle_leads_to_the_call_that_broke_it(tmp_path: Path) -> None:
+    found = read(of_script(SCRIPTS / "handle-breaks-when-key-left-and-came-back.json", "hello"))
+    async with opened(tmp_path / "page.html", page_of(found)) as tab:
+        await tab.value("pick(data.columns.reply.indexOf('broken'))")
+        assert (await told(tab, "what")).endswith(" key hello at 33")
+        assert await told(tab, "where") == f"step 21, slice key {HELLO}, at 33"
+        named = re.search(r"just before or just after (step \d+)", await told(tab, "why"))
+        assert named
+        await links(tab, "Show the other call")
+        assert (await told(tab, "where")).startswith(f"{named[1]}, at ")
+
+
 async def test_a_click_on_a_lease_tells_what_happened_to_it(tmp_path: Path) -> None:
     found = read(of_script(SCRIPTS / "bridge-carries-a-key-over-a-change.json", "hello"))
     grant = next(it for it in found.calls if it.word == "grant" and it.reply["kind"] == "bridge")
@@ -325,10 +338,11 @@ async def test_hostile_words_are_text(tmp_path: Path) -> None:
 
 
 async def test_it_is_light_dark_and_printed(tmp_path: Path) -> None:
-    pixel = "[...pen.getImageData(canvas.width - 3, canvas.height - 3, 1, 1).data].slice(0, 3)"
-    async with opened(tmp_path / "page.html", page_of(read(of_logs(COMMANDS, MOVE, HELLO)))) as tab:
-        denied = "data.columns.reply.findLastIndex((it) => it.startsWith('denied not-owned'))"
-        await tab.value(f"look(0, 60); pick({denied}); draw()")
+    pixel = "[...pen.getImageData(3, canvas.height - 3, 1, 1).data].slice(0, 3)"
+    found = read(of_script(SCRIPTS / "table-restarts-while-a-lease-is-out.json", "hello"))
+    async with opened(tmp_path / "page.html", page_of(found)) as tab:
+        await tab.size(1200, 480)
+        await tab.value("look(0, 125); pick(data.columns.reply.lastIndexOf('denied ended'))")
         await tab.scheme("light")
         await tab.until(f"{pixel}.every((it) => it > 220)")
         await picture(tab, tmp_path, "trace-light.png")

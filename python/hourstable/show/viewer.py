@@ -14,7 +14,7 @@ from . import report, sentences
 from .lanes import FOREVER, Item, Part
 from .pictures import cut_points, is_shown, later_readings, log_heading, shown_calls
 from .story import Lease, Story
-from .trace import TASK_CALLS, Call, Place, Trace, Unreadable, escaped
+from .trace import TASK_CALLS, Call, Place, Reason, Trace, Unreadable, escaped
 from .views import Window
 from .words import line_of, plain_line
 
@@ -22,6 +22,7 @@ STATIC = Path(__file__).with_name("static")
 SCRIPTS = ("data", "drawing", "viewer")  # in the order in which they run
 KINDS = ("served", "denied", "refused", "done", "warned", "fault", "unjudged")  # of marks, as viewer.js numbers them
 KIND_OF = {"served": 0, "continuous": 0, "found": 0, "denied": 1, "broken": 1, "refused": 2}
+COLUMNS = ("at", "lane", "kind", "what", "reply", "why", "decides", "other", "place", "ticket", "number")  # of calls
 ARROWS = ("grant", "note", "assignment")  # what a message is
 
 
@@ -32,9 +33,7 @@ class Data:
         self.trace, self.window = trace, window
         self.story = Story(trace)
         self.lanes: dict[str, int] = {}
-        self.columns: dict[str, list[Any]] = {
-            it: [] for it in ("at", "lane", "kind", "what", "reply", "why", "decides", "place", "ticket", "number")
-        }
+        self.columns: dict[str, list[Any]] = {it: [] for it in COLUMNS}
         self.rows: dict[int, int] = {}  # the index in the columns of each call
         self.heard: dict[int, int] = {}
         self.sent: dict[tuple[str, str], int] = {}  # who sent a message, by its kind and its number
@@ -72,11 +71,21 @@ class Data:
             found.append(f"the task does not own the key in generation {call.not_owner}")
         return " ".join(f"{it[0].upper()}{it[1:]}." for it in found if it)
 
+    def key_of(self, call: Call) -> str | None:
+        """Returns the key of a request, None if it is not known."""
+        head = self.trace.head
+        known: str | None = call.members.get("key", head.key if call.slice_key == head.slice_key else None)
+        return None if call.slice_key is None else known
+
     def what(self, call: Call) -> str:
         """Returns the words of a call, with its key if it is known."""
-        head = self.trace.head
-        key = call.members.get("key", head.key if call.slice_key == head.slice_key else None)
-        return call_words(call) if key is None else f"{call_words(call)}, key {key}"
+        words, key = call_words(call), self.key_of(call)
+        return words if key is None else words.replace(f"slice_key {call.slice_key}", f"key {key}")
+
+    def place(self, call: Call) -> str:
+        """Returns where a call stands, with the slice key if its words have the key."""
+        slice_key = "" if self.key_of(call) is None else f", slice key {call.slice_key}"
+        return f"{self.standing(call.place)}{slice_key}"
 
     def decides(self, call: Call) -> int:
         """Returns the number of the grant whose lease decides a reply, 0 if none does."""
@@ -84,6 +93,13 @@ class Data:
         if rule and rule.decides:
             return rule.decides.number
         return int(call.reason.row["number"]) if call.reason and call.reason.row else 0
+
+    def other(self, call: Call) -> int:
+        """Returns the number of another call that decides a reply, 0 if none does: one that took the key of a handle
+        away, or that sent something else or later."""
+        reason = call.reason or Reason()
+        place = reason.taken_last or reason.taken_first or (reason.sent.at if reason.sent else None)
+        return place.call if place else 0
 
     def add(self, call: Call) -> None:
         """Adds a call, with a mark if it is wanted."""
@@ -99,8 +115,8 @@ class Data:
         told = {
             "at": self.now, "lane": self.lane_of(call), "kind": self.kind_of(call), "what": self.what(call),
             "reply": reply or (line_of(call.reply) if call.reply else "not judged"), "why": self.why(call),
-            "decides": self.decides(call), "place": self.standing(call.place), "number": call.place.call,
-            "ticket": str(call.members.get("ticket", "")),
+            "decides": self.decides(call), "other": self.other(call), "place": self.place(call),
+            "ticket": str(call.members.get("ticket", "")), "number": call.place.call,
         }
         for name, value in told.items():
             self.columns[name].append(value)
@@ -140,6 +156,7 @@ class Data:
             self.columns["reply"][row] = f'told "{escaped(fault.told)}"; should be "{plain_line(fault.call.reply)}"'
             self.columns["why"][row] = self.why(fault.call)
             self.columns["decides"][row] = self.decides(fault.call)
+            self.columns["other"][row] = self.other(fault.call)
             return row
         return None
 

@@ -92,6 +92,12 @@ function leaseLinks(grant) {
   return links;
 }
 
+// The link to another call that decides, if it is on the page.
+function otherLinks(call) {
+  const { number, other } = data.columns, index = number.indexOf(other[call]);
+  return other[call] && index >= 0 ? [link("Show the other call", () => pick(index))] : [];
+}
+
 function messageLinks(call) {
   return data.arrows.flatMap(([sender, receiver, kind]) => {
     if (sender === call) return [link(`Where this ${ARROWS[kind]} was delivered`, () => pick(receiver))];
@@ -105,7 +111,8 @@ function choose(call) {
   [chosen, chosenGrant] = [call, columns.decides[call]];
   tell({
     what: columns.what[call], where: `${columns.place[call]}${ticket}, at ${reading}`, reply: columns.reply[call],
-    kind: KINDS[columns.kind[call]], why: columns.why[call], links: [...leaseLinks(chosenGrant), ...messageLinks(call)],
+    kind: KINDS[columns.kind[call]], why: columns.why[call],
+    links: [...leaseLinks(chosenGrant), ...otherLinks(call), ...messageLinks(call)],
   });
 }
 
