@@ -2,7 +2,7 @@
 
 Each answer is one of the library. Owners are what a clerk finds. Whether a task may serve the key
 is what a slicelet says that heard the grants of the table, at the table's reading; the sentences
-only name the lease, term or reading that decided.
+only name the lease, term or reading that decided, in the words of `hourstable.show`.
 """
 
 from dataclasses import dataclass
@@ -10,8 +10,9 @@ from typing import Any
 
 from hourstable.jobs import Job
 from hourstable.lanes import Given, Lanes
-from hourstable.library import Clerk, Refused, Slicelet, slice_key
+from hourstable.library import Clerk, GrantRead, Refused, Row, Slicelet, slice_key
 from hourstable.plans import message_of
+from hourstable.show import phrases
 from hourstable.table_calls import numbers_of
 
 
@@ -139,9 +140,7 @@ class KeyTold:
             words = refused.words.split(" ")[1:]
             if words[0] == "held":
                 row = next((it for it in self._job.rows() if it.number == int(words[3])), None)
-                until = f", until {row.table_ends:,}{self._away(row.table_ends)}" if row else ""
-                told.append(f"At {refused.at:,} the table refused the commit: task {words[1]} may "
-                            f"hold the {words[2]} lease of grant {words[3]}{until}.")
+                told.append(f"At {refused.at:,} the table refused the commit: {self._held(words, row)}.")
             elif words[0] == "grace":
                 until_ = int(words[1])
                 told.append(f"At {refused.at:,} the table refused the commit, until {until_:,}"
@@ -154,33 +153,38 @@ class KeyTold:
                         "nobody commits until an assigner takes it.")
         return told
 
+    def _held(self, words: list[str], row: Row | None) -> str:
+        """Says which lease a refused commit waits for. Its row may be gone by now."""
+        if row is None:
+            return f"task {words[1]} may hold {phrases.lease_name(words[2], int(words[3]))}"
+        name = phrases.lease_name(words[2], row.number, phrases.granted_words(row.generation, row.life))
+        return phrases.may_hold_words(row.task, name, self._when(row.table_ends))
+
     def _served(self, verdict: Verdict) -> str:
         assert verdict.served is not None
         grant = verdict.given[verdict.served].grant
         counted = "" if grant.ends == grant.table_ends else (
             f" by its clock; the table counts the lease until {grant.table_ends:,}")
-        return (f"Task {verdict.task} may serve it until {grant.ends:,}{self._away(grant.ends)}"
-                f"{counted}: the {grant.kind} lease of grant {grant.number}, of generation "
-                f"{grant.generation} and life {grant.life}, covers it.")
+        return f"Task {verdict.task} may serve it: {self._decides(grant, verdict)}{counted}."
 
     def _denied(self, verdict: Verdict) -> str:
         return f"Task {verdict.task} is denied, {verdict.words}: {self._why(verdict)}."
+
+    def _decides(self, grant: GrantRead, verdict: Verdict) -> str:
+        name = phrases.lease_name(grant.kind, grant.number, phrases.granted_words(grant.generation, grant.life))
+        return phrases.lease_words(name, verdict.ground, self._when(grant.ends))
 
     def _why(self, verdict: Verdict) -> str:
         assert self.at is not None
         grants = [one.grant for one in verdict.given.values()]
         if verdict.ground == "ended":
-            grant = next(it for it in grants if _covers(it.ranges, self.slice_key))
-            return (f"the {grant.kind} lease of grant {grant.number} covers it and ended at "
-                    f"{grant.ends:,}{self._away(grant.ends)}")
+            return self._decides(next(it for it in grants if _covers(it.ranges, self.slice_key)), verdict)
         if verdict.ground == "not-owned":
-            grant = next(it for it in grants if self.at < it.ends)
-            return (f"the {grant.kind} lease of grant {grant.number}, of generation "
-                    f"{grant.generation}, runs until {grant.ends:,} and does not cover it")
+            return self._decides(next(it for it in grants if self.at < it.ends), verdict)
         if grants:
             grant = max(grants, key=lambda it: it.ends)
-            return (f"its last lease, the {grant.kind} lease of grant {grant.number}, ended at "
-                    f"{grant.ends:,}{self._away(grant.ends)} and does not cover it")
+            name = phrases.lease_name(grant.kind, grant.number)
+            return f"{phrases.no_lease_words(verdict.task)}; its last one, {name}, ended at {self._when(grant.ends)}"
         asked = "" if verdict.task in self._alive else (
             ", and has not asked for one in the last guard term")
         drained = ", and is being drained" if verdict.task in self._draining else ""
@@ -193,6 +197,9 @@ class KeyTold:
         return [f"The table was restored{at} and has no rows of leases that it gave before. A task "
                 f"may still serve the key under such a lease until {self._job.grace:,}"
                 f"{self._away(self._job.grace)}, and no commit is accepted before."]
+
+    def _when(self, reading: int) -> str:
+        return f"{reading:,}{self._away(reading)}"
 
     def _away(self, reading: int) -> str:
         """Says in seconds how far a reading is from that of the table."""

@@ -109,8 +109,8 @@ async def test_a_key_is_told_by_the_lease_that_decides(file: Store, tmp_path: Pa
         }]
         assert told["denied"] == [{"task": 2, "ground": "not-owned"}]
         assert told["sentences"][0] == "Task 1 owns it in generation 1, which is committed."
-        assert f"the guard lease of grant {one['number']}, of generation 1" in told["sentences"][1]
-        assert f"until {int(one['ends']):,}" in told["sentences"][1]
+        name = f"the guard lease of grant {one['number']}, of life 1 and generation 1,"
+        assert f"Task 1 may serve it: {name} covers the key until {int(one['ends']):,} (in " in told["sentences"][1]
         told = await key_of(caller, "abc")
         assert (told["slice_key"], told["owners"]) == (str(ABC), [2])
         assert [it["number"] for it in told["served"]] == [int(two["number"])]
@@ -128,7 +128,8 @@ async def test_a_move_is_told_until_it_is_done(file: Store, tmp_path: Path) -> N
         text = " ".join(told["sentences"])
         assert "Generation 2 is proposed: task 2 owns it once this is committed." in text
         assert f"At {held.reading:,} the table refused the commit: task 1 may hold" in text
-        assert f"the guard lease of grant {one['number']}, until {int(one['until']):,}" in text
+        name = f"the guard lease of grant {one['number']}, of life 1 and generation 1,"
+        assert f"task 1 may hold {name} until {int(one['until']):,}" in text
         note = {"kind": "guard", "life": 1, "number": one["number"], "task": 1}
         message = {"job": "shop", "type": "note", "value": note, "version": 2}
         assert (await caller.post("free", message)).json == {"freed": 1}
@@ -148,8 +149,35 @@ async def test_a_lease_that_ended_is_told(file: Store, tmp_path: Path) -> None:
         await asyncio.sleep(0.3)
         told = await key_of(caller)
         assert (told["served"], told["denied"]) == ([], [{"task": 1, "ground": "ended"}])
-        assert f"lease of grant {one['number']} covers it and ended at {int(one['ends']):,}" in (
-            " ".join(told["sentences"]))
+        name = f"the guard lease of grant {one['number']}, of life 1 and generation 1,"
+        text = " ".join(told["sentences"])
+        assert f"Task 1 is denied, ended: {name} covers the key and ended at {int(one['ends']):,} (" in text
+
+
+async def test_who_is_to_own_a_key_is_told_why_it_is_denied(file: Store, tmp_path: Path) -> None:
+    async with running(file, tmp_path / "logs") as (_, caller):
+        term = await begun(caller)
+        two = (await caller.grant(2)).json["value"]
+        await caller.post(f"propose?term={term}", assignment(2, [[0, [2]]]))
+        name = f"the guard lease of grant {two['number']}, of life 1 and generation 1,"
+        told = (await key_of(caller))["sentences"]
+        denied = next(it for it in told if it.startswith("Task 2 is denied, not-owned 1: "))
+        assert f": {name} is live until {int(two['ends']):,} (in " in denied
+        assert denied.endswith(" s) and does not cover the key.")
+
+
+async def test_the_last_lease_of_who_holds_none_is_told(file: Store, tmp_path: Path) -> None:
+    async with running(file, tmp_path / "logs") as (_, caller):
+        assert (await caller.create({**POLICY, "guard": 200})).status == 201
+        term = await caller.take()
+        await caller.change(term, 1, [[0, [1]], [HALF, [2]]])
+        two = (await caller.grant(2)).json["value"]
+        await caller.post(f"propose?term={term}", assignment(2, [[0, [2]]]))
+        await asyncio.sleep(0.3)
+        last = f"the guard lease of grant {two['number']}, ended at {int(two['ends']):,} ("
+        told = (await key_of(caller))["sentences"]
+        denied = next(it for it in told if it.startswith("Task 2 is denied, no-lease: "))
+        assert f"task 2 holds no live lease, and none that covers the key; its last one, {last}" in denied
 
 
 async def test_a_restart_is_told(file: Store, tmp_path: Path) -> None:

@@ -4,6 +4,7 @@ from __future__ import annotations
 
 from collections.abc import Callable
 
+from . import phrases
 from .trace import Call, Lease, Owners, Place, Reason, Trace, Untimely
 from .words import line_of, listed
 
@@ -17,13 +18,8 @@ def step_name(place: Place) -> str:
 
 def lease_words(lease: Lease, denied: str, standing: Standing) -> str:
     """Returns what the lease that decides a verdict covers, and its deadline."""
-    heard = f", heard in {standing(lease.heard)}," if lease.heard else ""
-    name = f"the {lease.kind} lease of grant {lease.number}{heard}"
-    if not denied:
-        return f"{name} covers the key until {lease.ends}"
-    if denied == "ended":
-        return f"{name} covers the key and ended at {lease.ends}"
-    return f"{name} is live until {lease.ends} and does not cover the key"
+    heard = f"heard in {standing(lease.heard)}" if lease.heard else ""
+    return phrases.lease_words(phrases.lease_name(lease.kind, lease.number, heard), denied, str(lease.ends))
 
 
 def below_words(call: Call, last: int) -> str:
@@ -37,7 +33,7 @@ def ground_words(call: Call, denied: str, last: int) -> str:
         return f"task {call.task} was not started"
     if denied == "clock-back":
         return below_words(call, last)
-    return f"task {call.task} holds no live lease, and none that covers the key"
+    return phrases.no_lease_words(call.task or 0)
 
 
 def verdict_words(call: Call, reason: Reason, denied: str, standing: Standing) -> str:
@@ -59,10 +55,8 @@ def broken_words(call: Call, reason: Reason, standing: Standing) -> str:
 
 def row_words(reason: Reason) -> str:
     row = reason.row or {}
-    return (
-        f"task {row['task']} may hold the {row['kind']} lease of grant {row['number']}, of life {row['life']} and"
-        f" generation {row['generation']}, until {row['until']}"
-    )
+    told = phrases.granted_words(row["generation"], row["life"])
+    return phrases.may_hold_words(row["task"], phrases.lease_name(row["kind"], row["number"], told), row["until"])
 
 
 def old_words(call: Call, reason: Reason) -> str:
