@@ -8,6 +8,7 @@ import re
 from collections.abc import AsyncIterator, Iterator
 from contextlib import asynccontextmanager
 from html.parser import HTMLParser
+from itertools import chain
 from pathlib import Path
 
 import pytest
@@ -23,6 +24,8 @@ from hourstable.show.trace import (  # noqa: E402
     Call, End, Head, Lease, Members, Owners, Place, Reason, Rule, Trace,
 )
 from showing import COMMANDS, SCRIPTS, of_logs, of_script, read  # noqa: E402
+from test_show import played  # noqa: E402
+from test_show_reasons import random_traces  # noqa: E402
 
 HELLO = slice_key(b"hello")
 MOVE = ["move-table.jsonl", "move-task-1.jsonl", "move-task-2.jsonl", "move-client.jsonl"]
@@ -253,6 +256,19 @@ async def test_a_click_on_a_lease_tells_what_happened_to_it(tmp_path: Path) -> N
         assert await told(tab, "what") == "task 1 may serve the key"
         assert f"from {stretch.first} to {stretch.end}" in await told(tab, "why")
         assert await tab.value("chosenGrant") == stretch.lease["number"]
+
+
+def test_the_lease_that_is_outlined_is_the_one_that_is_named(tmp_path: Path) -> None:
+    second = 0  # how often a lease decides that is not the first one held
+    stored = (read(of_script(SCRIPTS / f"{name}.json")) for name in played())
+    for found in chain(stored, random_traces(tmp_path)):
+        columns = viewer.Data(found, whole(found)).value()["columns"]
+        for why, decides in zip(columns["why"], columns["decides"]):
+            named = re.search(r" lease of grant (\d+)", why)
+            assert decides == (int(named[1]) if named else 0), why
+        rules = [it.reason.rule for it in found.calls if it.reason and it.reason.rule]
+        second += sum(it.decides is not None and it.decides is not it.leases[0] for it in rules)
+    assert second > 0
 
 
 def test_messages_are_arrows_from_who_sent_them() -> None:

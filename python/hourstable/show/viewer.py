@@ -61,9 +61,16 @@ class Data:
             return KINDS.index("warned")
         return KIND_OF.get(call.word, KINDS.index("done"))
 
+    def sentence(self, call: Call) -> str:
+        """Returns why a reply is what it is, also of a handle that was given."""
+        if call.word == "handle" and call.reason:
+            return sentences.verdict_words(call, call.reason, "", self.standing)
+        told = sentences.sentence(call, self.standing) or ""
+        return told or report.why(self.trace, call).removeprefix(": ") if self.trace.head.of_logs else told
+
     def why(self, call: Call) -> str:
         """Returns the sentences on a call: why its reply is what it is, and what is warned of."""
-        found = [sentences.sentence(call, self.standing) or report.why(self.trace, call).removeprefix(": ")]
+        found = [self.sentence(call)]
         if call.untimely is not None:
             before = f"{call.untimely}, which the table read before"
             found.append(f"untimely: the reading is more than the skew below {before}")

@@ -398,7 +398,7 @@ function ring(call, colour, size) {
 
 // What was found has a ring, or below its call a tick if there are many.
 function drawMatches() {
-  const { at: ats } = data.columns, seen = matches.filter((it) => ats[it] >= view.from && ats[it] <= view.to);
+  const { at: ats, lane } = data.columns, seen = matches.filter((it) => ats[it] >= view.from && ats[it] <= view.to);
   if (seen.length <= FEW) {
     for (const it of seen) ring(it, colours.match, 7);
     return;
@@ -406,7 +406,7 @@ function drawMatches() {
   const drawn = new Set();
   pen.fillStyle = colours.match;
   for (const it of seen) {
-    const left = Math.round(x(ats[it]) / COLUMN) * COLUMN, y = middleOf(it) + ROW / 2 - 2, spot = y * 1e5 + left;
+    const left = Math.round(x(ats[it]) / COLUMN) * COLUMN, y = middles[lane[it]] + ROW / 2 - 2, spot = y * 1e5 + left;
     if (!drawn.has(spot)) pen.fillRect(left, y, COLUMN, 3);
     drawn.add(spot);
   }
