@@ -238,6 +238,12 @@ def test_a_trace_is_read_from_a_pipe(tmp_path: Path) -> None:
     assert ran.stdout == proved("timeline", "--key", "hello", str(path)).stdout
     cut = show(environment, "explain", "--trace", "-", given=text[:-40])
     assert cut.returncode == 3 and cut.stderr.startswith(b"hourstable-show: the trace cannot be read: "), cut
+    report_of = show(environment, "report", "--trace", "-", given=text)
+    assert (report_of.returncode, report_of.stdout) == (2, b"")
+    assert report_of.stderr == b"hourstable-show: error: the trace is of a script, and a report is of logs\n"
+    part_of = show(environment, "explain", "--readings", "0..5", "--trace", "-", given=text)
+    assert (part_of.returncode, part_of.stdout) == (2, b"")
+    assert part_of.stderr.startswith(b"hourstable-show: error: the trace is of a script, and --around")
     both = show(environment, "explain", "--trace", "-", str(path), given=text)
     assert both.returncode == 2 and b"--trace is given alone" in both.stderr
 

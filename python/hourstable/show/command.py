@@ -219,6 +219,8 @@ def with_window(
     view = None if chosen.trace else view_of(chosen, tuple(chosen.logs or ()))
     trace = trace_of(chosen)
     if not trace.head.of_logs:
+        if chosen.around or chosen.readings:
+            raise Refusal("error: the trace is of a script, and --around and --readings are for logs")
         return trace, show(trace, views.Window(0, len(trace.calls)))
     view = view or view_of(chosen, trace.head.logs)
     return trace, show(trace, window_of(trace, view))
@@ -274,6 +276,8 @@ def reported(chosen: argparse.Namespace) -> int:
         trace = traced_logs(["--no-calls", *options, "--logs", *chosen.logs])
     else:
         raise Refusal("error: no log is given")
+    if not trace.head.of_logs:
+        raise Refusal("error: the trace is of a script, and a report is of logs")
     write(report.report(trace, chosen.all))
     end = trace.end
     is_late = end.untimely is not None or end.drift is not None and not end.drift["kept"]
