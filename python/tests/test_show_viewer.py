@@ -314,6 +314,12 @@ async def test_it_finds_keys_tasks_tickets_and_refusals(tmp_path: Path) -> None:
             await tab.type(words)
             assert await told(tab, "matches") == f"{many} found", words
         await tab.value("document.getElementById('words').value = ''")
+        await tab.type("key hello")  # a log has the slice key alone
+        await tab.until("document.getElementById('matches').textContent", lambda it: it == f"{keyed} found")
+        await tab.value("document.getElementById('words').value = ''")
+        await tab.type("key a")
+        assert await told(tab, "matches") == "0 found"
+        await tab.value("document.getElementById('words').value = ''")
         await tab.type("not-owned task 2")  # in no phrase of its own
         both = sum(it.ground == "not-owned" and it.task == 2 for it in found.calls)
         assert both and await told(tab, "matches") == f"{both} found"
@@ -357,7 +363,7 @@ async def test_it_is_light_dark_and_printed(tmp_path: Path) -> None:
     pixel = "[...pen.getImageData(3, canvas.height - 3, 1, 1).data].slice(0, 3)"
     found = read(of_script(SCRIPTS / "table-restarts-while-a-lease-is-out.json", "hello"))
     async with opened(tmp_path / "page.html", page_of(found)) as tab:
-        await tab.size(1200, 480)
+        await tab.size(1200, 530)
         await tab.value("look(0, 125); pick(data.columns.reply.lastIndexOf('denied ended'))")
         await tab.scheme("light")
         await tab.until(f"{pixel}.every((it) => it > 220)")

@@ -203,10 +203,17 @@ function callsWith(words) {
   return found;
 }
 
-// Returns the calls that have a phrase; if none has it, those that have each of its words.
+// Returns the calls that have a phrase; if none has it, those that have each of its words, but of `key K`.
 function matching(phrase) {
   const wanted = phrase.trim().toLowerCase().replace(/\s+/g, " ");
   if (!wanted) return [];
   const found = callsWith([wanted]);
-  return found.length ? found : callsWith(wanted.split(" "));
+  return found.length || wanted.startsWith("key ") ? found : callsWith(wanted.split(" "));
+}
+
+// Returns the calls that have the slice key of a key, the first 63 bits of its SHA-256: logs have no texts of keys.
+async function matchingKey(key) {
+  if (!key || !window.crypto || !crypto.subtle) return [];
+  const digest = await crypto.subtle.digest("SHA-256", new TextEncoder().encode(key));
+  return callsWith([String(new DataView(digest).getBigUint64(0) >> 1n)]);
 }

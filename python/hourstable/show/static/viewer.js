@@ -184,10 +184,17 @@ function thereAt(left, top) {
 
 // Searching ----------------------------------------------------------------------------------------
 
-function search(words) {
-  matches = matching(words);
+function tellMatches(found, words) {
+  matches = found;
   at("matches").textContent = words.trim() ? `${matches.length} found` : "";
   redraw();
+}
+
+async function search(words) {
+  tellMatches(matching(words), words);
+  if (matches.length > 0) return;
+  const found = await matchingKey(words.trim().replace(/^key /, ""));
+  if (found.length > 0 && at("words").value === words) tellMatches(found, words);
 }
 
 function nextMatch(by) {
