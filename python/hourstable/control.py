@@ -317,6 +317,7 @@ class Plane:
 
     async def _take(self, job: Job) -> None:
         """Takes a job, if no other plane was first."""
+        holder = job.holder
         try:
             await job.take()
         except (Replaced, Conflict, NoSuchJob):
@@ -324,7 +325,7 @@ class Plane:
         except Exception as error:
             self._fail(job.name, "call", error)
         else:
-            log.info("%s was taken from process %s", job.name, job.holder)
+            log.info("%s was taken from process %s", job.name, holder)
             self.failures.well(job.name, "call")
 
     def _fit_jobs(self) -> None:

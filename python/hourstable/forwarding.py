@@ -99,7 +99,8 @@ class Forwarding:
 
     def may_take(self, job: Job) -> bool:
         """Whether this plane is to take a job that another one holds: that one gives it away, its beat stood still,
-        it says that the job fails on it, or tasks do not reach it. Not because nobody called the job."""
+        it says that the job fails on it or that it does not read rows of this form, or tasks do not reach it. Not
+        because nobody called the job."""
         peers, holder = self._peers, job.holder
         if job.is_given or not peers.is_known or holder is None:
             return False
@@ -108,7 +109,8 @@ class Forwarding:
         beat = peers.of(holder)
         if beat is None:
             return job.stands_still()  # one of version 1.0, which does not beat
-        if job.name in beat.failed and job.name not in self._failures:
+        cannot = job.name in beat.failed or beat.reads < job.rights.form()
+        if cannot and job.name not in self._failures:
             return True
         return self._is_out_of_reach(job, beat)
 

@@ -7,6 +7,7 @@ import time
 from collections.abc import Iterator, Sequence
 from dataclasses import replace
 from pathlib import Path
+from typing import NamedTuple
 
 from . import known
 from .many import all_of, one
@@ -78,6 +79,16 @@ def line_of(found: Found) -> str:
     return "\n".join(lines)
 
 
+class Longest(NamedTuple):
+    """The longest denial of some runs, and the seed of that which shows it."""
+
+    seconds: float = 0.0
+    seed: int = 0
+
+    def __str__(self) -> str:
+        return f"{self.seconds:6.2f} {self.seed or '':>6}"
+
+
 class Totals:
     """What many runs came to."""
 
@@ -85,7 +96,7 @@ class Totals:
         self.count, self.done, self.failed, self.all = count, 0, list[Found](), list[Found]()
         self.virtual = self.took = 0.0
         self.begun = time.monotonic()
-        self.bounds: dict[str, list[float]] = {}
+        self.bounds: dict[str, list[Longest]] = {}
 
     def add(self, found: Found) -> None:
         self.done += 1
@@ -95,8 +106,8 @@ class Totals:
         if found.failed:
             self.failed.append(found)
         for kinds, longest in found.figures.get("denied", {}).items():
-            known_of = self.bounds.setdefault(kinds, [0.0, 0.0])
-            self.bounds[kinds] = [max(a, b) for a, b in zip(known_of, longest)]
+            known_of = self.bounds.setdefault(kinds, [Longest(), Longest()])
+            self.bounds[kinds] = [max(a, Longest(b, found.seed)) for a, b in zip(known_of, longest)]
 
     def progress(self) -> None:
         if sys.stderr.isatty():
@@ -108,10 +119,10 @@ class Totals:
         if sys.stderr.isatty():
             print("\r\x1b[K", end="", file=sys.stderr)
         if with_bounds:
-            print(f"{'longest denial, in seconds':60} stays  moves")
+            print(f"{'longest denial, in seconds':40} {'stays':>6} {'seed':>6} {'moves':>6} {'seed':>6}")
             for kinds, (stays, moves) in sorted(self.bounds.items()):
                 if "+" not in kinds:
-                    print(f"{kinds:60} {stays:5.2f}  {moves:5.2f}")
+                    print(f"{kinds:40} {stays} {moves}")
         if self.failed:
             print("failing seeds: " + " ".join(str(it.seed) for it in sorted(self.failed, key=_seed)))
         wall = time.monotonic() - self.begun

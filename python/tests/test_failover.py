@@ -202,11 +202,15 @@ async def test_no_job_moves_while_the_store_stands_still_and_thaws(two: tuple[Si
     assert (first.job.holder, second.job.holder) == (1, 1)
 
 
-async def test_a_plane_on_which_a_job_fails_loses_it(two: tuple[Side, Side]) -> None:
+async def test_a_plane_on_which_a_job_fails_loses_it(
+    two: tuple[Side, Side], caplog: pytest.LogCaptureFixture
+) -> None:
+    caplog.set_level("INFO", "hourstable.control")
     first, second = two
     first.store.is_broken = True
     assert (await first.caller.grant(1)).status == 500
     await until(lambda: second.job.is_held)
+    await until(lambda: "shop was taken from process 1" in caplog.text)
     assert (await first.granted()).headers[HOLDER] == second.caller.url
 
 

@@ -226,6 +226,44 @@ async def test_a_row_that_was_recovered_goes_back_to_a_plane_of_before(
     assert await form_in(store, job) == PLAIN
 
 
+async def test_a_newer_plane_takes_a_recovered_job_from_one_that_does_not_read_its_row(
+    store: Store, job: str, tmp_path: Path
+) -> None:
+    """The older plane beats, and counts as the holder: it was that before the job was recovered."""
+    logs = tmp_path / "logs"
+    async with running(store, logs, shared=True, standby=STANDBY) as (_, caller):
+        caller.job = job
+        await begun(caller)
+        lost = await served(caller, 1)
+    await recover(store, [job], watch=0)
+    async with running(store, logs, 0, True, STANDBY, row_form=PLAIN) as (_, first):
+        first.job = job
+        assert (await first.get()).status == 503
+        async with running(store, logs, 1, True, STANDBY) as (newer, second):
+            second.job = job
+            assert await served(second, 1) > lost
+            assert newer.jobs[job].job.is_held and await form_in(store, job) == PLAIN
+
+            async def is_read() -> bool:
+                return (await first.get()).status == 200
+
+            await until_it(is_read)
+
+
+async def test_a_recovered_job_stays_with_a_plane_that_reads_its_row(file: Store, tmp_path: Path) -> None:
+    logs = tmp_path / "logs"
+    async with running(file, logs, shared=True, standby=STANDBY) as (_, caller):
+        await begun(caller)
+        await served(caller, 1)
+    await recover(file, ["shop"], watch=0)
+    async with running(file, logs, 0, True, STANDBY) as (plane, caller):
+        await served(caller, 1)
+        async with running(file, logs, 1, True, STANDBY) as (other, _):
+            await until(lambda: other.peers.others() == [0] and "shop" in other.jobs)
+            await asyncio.sleep(2 * STANDBY)
+            assert plane.jobs["shop"].job.is_held and await form_in(file, "shop") == AFTER_BACKUP
+
+
 async def test_an_upgrade_is_taken_back_half_way(store: Store, job: str, tmp_path: Path) -> None:
     """Whoever writes the row, planes of both versions read it."""
     logs = tmp_path / "logs"
