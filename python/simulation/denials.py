@@ -29,6 +29,10 @@ class Denial(NamedTuple):
     def seconds(self) -> float:
         return (self.ended - self.begun) / SECOND
 
+    def lasts_from(self, at: int) -> int:
+        """Returns for how many ns it lasted from a time on, below 0 if it had ended."""
+        return self.ended - max(self.begun, at)
+
     def __str__(self) -> str:
         how = "moved" if self.moved else "stayed"
         return f"{self.key} {how}, denied from {self.begun / SECOND:.2f} for {self.seconds:.2f} s"

@@ -187,15 +187,12 @@ class Run:
         }.get(scene.world)
 
     def _denied(self) -> list[str]:
-        """Returns the denials that last longer than the world allows. One that began before counts from when the jobs
-        are to be recovered."""
+        """Returns the denials that last longer than the world allows, from when the jobs are to be recovered."""
         scene, bounds = self.scene, self._bounds()
         if bounds is None:
             return []
         settled = int((scene.begin + scene.recovering) * SECOND)
-        return [
-            str(it) for it in self.watch.denials if it.ended - max(it.begun, settled) > bounds[it.moved] * SECOND
-        ]
+        return [str(it) for it in self.watch.denials if it.lasts_from(settled) > bounds[it.moved] * SECOND]
 
     def _has_lost(self) -> bool:
         """Whether logs lost lines with the power of a host."""

@@ -7,7 +7,7 @@ from typing import Any
 import pytest
 
 from hourstable.ranges import KEYS, Ranges
-from simulation.denials import Watch, lapses
+from simulation.denials import Denial, Watch, lapses
 from simulation.scene import JobScene
 from simulation.services import Broken, Gain, Loss
 from simulation.world import SECOND, World
@@ -87,3 +87,9 @@ def test_a_denial_is_followed_beyond_the_end_of_the_run(
     watch.end(2.0)
     found = {(it.moved, round(it.seconds, 1)) for it in watch.denials}
     assert found == {(moved, seconds)} and len(watch.denials) == len(JOBS[0].keys)
+
+
+@pytest.mark.parametrize(("begun", "ended", "lasts"), [(40, 45, 5), (10, 45, 10), (10, 35, 0), (10, 20, -15)])
+def test_a_denial_that_began_before_a_time_counts_from_then(begun: int, ended: int, lasts: int) -> None:
+    """One that began while jobs were recovered, and lasts on, is no part of the recovery."""
+    assert Denial(KEY, begun * SECOND, ended * SECOND, False, ()).lasts_from(35 * SECOND) == lasts * SECOND
