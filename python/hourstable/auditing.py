@@ -52,19 +52,13 @@ def gaps_of(folder: Path, above: int = 0) -> list[Gap]:
     """Returns what the logs of a job lack, but for what was removed and is below a ticket, up to which an earlier
     audit saw all.
 
-    Of gaps that begin with one call the last one counts whose last call no log has: a full disk may have had room
-    for the line of a first one alone, and a control plane that takes over logs what the store has, the last gap and
-    the call after it. A gap whose first and last calls are in a log is none: a control plane has logged what its
-    store had of one write.
+    A gap whose first and last calls are in a log is none: a control plane has logged what its store had of one
+    write. Of the others that begin with one call the later one counts: the disk had not taken what came then, or had
+    taken it after all.
     """
-    begun: dict[int, list[Gap]] = {}
-    for gap in _gaps_in(folder):
-        if not (gap.removed and gap.last < above):
-            begun.setdefault(gap.first, []).append(gap)
-    ends = {ticket for gaps in begun.values() for gap in gaps for ticket in (gap.first, gap.last)}
-    there = _those_there(folder, ends)
-    found = [max(gaps, key=lambda gap: (gap.last not in there, gap.last)) for gaps in begun.values()]
-    return [gap for gap in found if not {gap.first, gap.last} <= there]
+    gaps = [gap for gap in _gaps_in(folder) if not (gap.removed and gap.last < above)]
+    there = _those_there(folder, {ticket for gap in gaps for ticket in (gap.first, gap.last)})
+    return list({gap.first: gap for gap in gaps if not {gap.first, gap.last} <= there}.values())
 
 
 def _those_there(folder: Path, wanted: set[int]) -> set[int]:
