@@ -206,9 +206,10 @@ IsNotSaved (audit.Unsaved name error) = ⊤
 IsNotSaved audit.Memory = ⊤
 IsNotSaved _ = ⊥
 
--- logs pass where their calls are one run, and in a strict audit only with timely clocks that kept the drift
+-- logs pass where their calls are one run and the law of fencing tokens rules out no write, and in a strict audit only with timely clocks that kept
+-- the drift
 abbrev pub passes : Bool → LogReport → Bool
-passes strict report = if strict then report.is_timely && report.keeps_drift else report.is_one
+passes strict report = report.is_fenced && (if strict then report.is_timely && report.keeps_drift else report.is_one)
 
 module _ (names : List (List ℕ)) (flags : AuditFlags) (before after : Option (List ℕ)) where
   -- the logs of these names were read to their ends, this is the report on them all, and they pass or not

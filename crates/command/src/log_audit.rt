@@ -402,9 +402,21 @@ fn judge<'a, R: Read, E: Write>(
     let names = audit.names;
     let opened = open_all(rt, names, audit.flags.goes_on, input, &mut progress)?;
     let OpenedLogs { read, earlier } = opened;
-    let ReadLog { log, job_line } = read;
+    let ReadLog {
+        log,
+        writes,
+        job_line,
+    } = read;
     check_state(rt.alloc(), names, log.job, &earlier)?;
-    let report = audit_log(rt.alloc(), names, log, earlier, options, &mut progress)?;
+    let report = audit_log(
+        rt.alloc(),
+        names,
+        log,
+        writes.as_slice(),
+        earlier,
+        options,
+        &mut progress,
+    )?;
     Ok(Judged { report, job_line })
 }
 
@@ -441,6 +453,9 @@ fn save_state<'a>(
 fn passes(strict: bool, report: &LogReport) -> bool
     ensures { result ≡ passes strict report.now }
 {
+    if !report.is_fenced {
+        return false;
+    }
     if strict {
         report.is_timely && report.keeps_drift
     } else {
@@ -449,7 +464,8 @@ fn passes(strict: bool, report: &LogReport) -> bool
 }
 
 /// Audits the logs with these names, writes a report, and returns whether they pass: their calls
-/// are one run, and if the audit is strict, the clocks were timely and kept the drift.
+/// are one run, the law of fencing tokens rules out no write, and if the audit is strict, the clocks
+/// were timely and kept the drift.
 ///
 /// The logs are read in their order, and judged as one log. A log is read to its end, or up to a
 /// line of more than [`MOST_LINE_BYTES`], for which it is refused. Each `-` is what is left of the

@@ -130,10 +130,7 @@ fn show<'a, R: Read, E: Write>(
         errors,
         is_wanted: false,
     };
-    let ReadLog {
-        log,
-        job_line: _line,
-    } = read_all(rt, showing.names, input, &mut progress)?;
+    let ReadLog { log, .. } = read_all(rt, showing.names, input, &mut progress)?;
     let names = showing.names;
     match shown_of(rt.alloc(), names, log, showing.text, view, &mut progress)? {
         Some(shown) => Ok(shown),

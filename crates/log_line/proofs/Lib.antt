@@ -4,3 +4,4 @@ pub mod Parting
 pub mod Naming
 pub mod Extending
 pub mod LineTaking
+pub mod TokenText

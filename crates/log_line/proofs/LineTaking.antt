@@ -53,11 +53,11 @@ no_bad None none = refl
 no_bad (Some bad) none = absurd (cc)
 
 pub calls_so_far : (lines : List PlacedLine) (taken : CallLines) (bad : Option BadLine) → taken.bad ≡ bad → bad ≡ None → AreCallLines lines taken
-    → AreSaid lines taken.entries.items taken.torn.items
+    → AreSaid lines taken.entries.items taken.writes.items taken.torn.items
 calls_so_far lines taken (Some bad) is none are = absurd (cc)
 calls_so_far lines taken None is none are = subst (AreCallsUpTo lines taken) is are
 
-pub calls_are : (lines : List PlacedLine) (taken : CallLines) → taken.bad ≡ None → AreSaid lines taken.entries.items taken.torn.items → AreCallLines lines taken
+pub calls_are : (lines : List PlacedLine) (taken : CallLines) → taken.bad ≡ None → AreSaid lines taken.entries.items taken.writes.items taken.torn.items → AreCallLines lines taken
 calls_are lines taken is said = subst (AreCallsUpTo lines taken) (sym is) said
 
 pub bad_stays : (lines : List PlacedLine) (line : PlacedLine) (taken : CallLines) (bad : Option BadLine) → taken.bad ≡ bad → is_some bad ≡ true → AreCallLines lines taken

@@ -9,6 +9,7 @@ use Rattle.replies.specs.Jobs.{job_member}
 use Rattle.faults.specs.Faults.{AnswerError}
 use Rattle.faults.specs.JobLines.{SaysJob, IsNoJob}
 use Rattle.log_line.specs.declared.entry.LinePosition.{LinePosition}
+use Rattle.log_line.specs.declared.entry.WriteEntry.{WriteEntry}
 use Rattle.log_line.specs.declared.lines.KeptLine.{KeptLine}
 use Rattle.log_line.specs.declared.log.Log.{Log}
 use Rattle.log_line.specs.declared.log.LogError.{LogError}
@@ -144,11 +145,11 @@ module _ (lines jobs others : List PlacedLine) (first : PlacedLine) (later : Lis
   pub jobs_said : (job : Job) → IsJobOf jobs first job → (jobs ≡ [] → ⊥) × AreOfJob jobs job
   jobs_said job is = some_jobs jobs others first later job (subst (λ (ls : List PlacedLine). AreParted None ls jobs others) whole parted) is
 
-  -- a job and calls are a log
-  pub is_log : (log : Log) → IsJobOf jobs first log.job → AreSaid others log.entries.items log.torn.items → IsLog lines log
-  is_log log is calls =
+  -- a job, calls and writes are a log
+  abbrev pub is_log : (log : Log) (writes : List WriteEntry) → IsJobOf jobs first log.job → AreSaid others log.entries.items writes log.torn.items → IsLog lines log
+  is_log log writes is calls =
       let said = jobs_said log.job is in
-      record { short = short; jobs = jobs; others = others; parted = parted; some = said.0; job = said.1; calls = calls }
+      record { short = short; jobs = jobs; others = others; parted = parted; some = said.0; job = said.1; writes = writes; calls = calls }
 
   -- there is no job
   pub no_job_read : (error : LogError) → IsNoJobOf jobs first error → IsUnread lines error

@@ -5,31 +5,52 @@ use Rattle.std.proofs.lemmas.List.Elements.{filter-append}
 use Rattle.wire.specs.declared.fault.DecodeRefusal.{DecodeRefusal}
 use Rattle.program_io.specs.Lines.{is_blank, is_long}
 use Rattle.log_line.specs.declared.entry.LogEntry.{LogEntry}
+use Rattle.log_line.specs.declared.entry.WriteEntry.{WriteEntry}
 use Rattle.log_line.specs.declared.entry.LinePosition.{LinePosition}
 use Rattle.log_line.specs.declared.lines.KeptLine.{KeptLine}
-use Rattle.log_line.specs.Files.{PlacedLine, IsSaid, IsTorn, AreSaid, IsBadLine, AreShort, counted, HasLongLine}
+use Rattle.log_line.specs.Files.{PlacedLine, IsSaid, IsTorn, IsWritten, AreSaid, IsBadLine, AreShort, counted, HasLongLine}
 use Rattle.log_line.specs.Readers.{kept}
 
 -- one line more, which says a call
-pub said_after : (lines : List PlacedLine) (entries : List LogEntry) (torn : List LinePosition) (line : PlacedLine) (entry : LogEntry) → AreSaid lines entries torn → IsSaid line entry
-    → AreSaid (lines ++ line ∷ []) (entries ++ entry ∷ []) torn
-said_after [] [] [] line entry are said = inl (entry, [], refl, said, tt)
-said_after [] [] (t ∷ torn) line entry are said = absurd are
-said_after [] (e ∷ entries) torn line entry are said = absurd are
-said_after (l ∷ lines) entries torn line entry (inl are) said =
-    inl (are.0, are.1 ++ entry ∷ [], ap (λ (es : List LogEntry). es ++ entry ∷ []) are.2, are.3, said_after lines are.1 torn line entry are.4 said)
-said_after (l ∷ lines) entries torn line entry (inr are) said =
-    inr (are.0, are.1, are.2, said_after lines entries are.0 line entry are.3 said)
+pub said_after : (lines : List PlacedLine) (entries : List LogEntry) (writes : List WriteEntry) (torn : List LinePosition) (line : PlacedLine) (entry : LogEntry)
+    → AreSaid lines entries writes torn → IsSaid line entry → AreSaid (lines ++ line ∷ []) (entries ++ entry ∷ []) writes torn
+said_after [] [] [] [] line entry are said = inl (entry, [], refl, said, tt)
+said_after [] [] [] (t ∷ torn) line entry are said = absurd are
+said_after [] [] (w ∷ writes) torn line entry are said = absurd are
+said_after [] (e ∷ entries) writes torn line entry are said = absurd are
+said_after (l ∷ lines) entries writes torn line entry (inl are) said =
+    inl (are.0, are.1 ++ entry ∷ [], ap (λ (es : List LogEntry). es ++ entry ∷ []) are.2, are.3, said_after lines are.1 writes torn line entry are.4 said)
+said_after (l ∷ lines) entries writes torn line entry (inr (inl are)) said =
+    inr (inl (are.0, are.1, are.2, are.3, said_after lines entries are.1 torn line entry are.4 said))
+said_after (l ∷ lines) entries writes torn line entry (inr (inr are)) said =
+    inr (inr (are.0, are.1, are.2, said_after lines entries writes are.0 line entry are.3 said))
+
+-- one line more, which says a write
+pub written_after : (lines : List PlacedLine) (entries : List LogEntry) (writes : List WriteEntry) (torn : List LinePosition) (line : PlacedLine) (entry : WriteEntry)
+    → AreSaid lines entries writes torn → IsWritten line entry → AreSaid (lines ++ line ∷ []) entries (writes ++ entry ∷ []) torn
+written_after [] [] [] [] line entry are said = inr (inl (entry, [], refl, said, tt))
+written_after [] [] [] (t ∷ torn) line entry are said = absurd are
+written_after [] [] (w ∷ writes) torn line entry are said = absurd are
+written_after [] (e ∷ entries) writes torn line entry are said = absurd are
+written_after (l ∷ lines) entries writes torn line entry (inl are) said =
+    inl (are.0, are.1, are.2, are.3, written_after lines are.1 writes torn line entry are.4 said)
+written_after (l ∷ lines) entries writes torn line entry (inr (inl are)) said =
+    inr (inl (are.0, are.1 ++ entry ∷ [], ap (λ (ws : List WriteEntry). ws ++ entry ∷ []) are.2, are.3, written_after lines entries are.1 torn line entry are.4 said))
+written_after (l ∷ lines) entries writes torn line entry (inr (inr are)) said =
+    inr (inr (are.0, are.1, are.2, written_after lines entries writes are.0 line entry are.3 said))
 
 -- one line more, which is torn
-pub torn_after : (lines : List PlacedLine) (entries : List LogEntry) (torn : List LinePosition) (line : PlacedLine) → AreSaid lines entries torn → IsTorn line
-    → AreSaid (lines ++ line ∷ []) entries (torn ++ line.place ∷ [])
-torn_after [] [] [] line are is = inr ([], refl, is, tt)
-torn_after [] [] (t ∷ torn) line are is = absurd are
-torn_after [] (e ∷ entries) torn line are is = absurd are
-torn_after (l ∷ lines) entries torn line (inl are) is = inl (are.0, are.1, are.2, are.3, torn_after lines are.1 torn line are.4 is)
-torn_after (l ∷ lines) entries torn line (inr are) is =
-    inr (are.0 ++ line.place ∷ [], ap (λ (ts : List LinePosition). ts ++ line.place ∷ []) are.1, are.2, torn_after lines entries are.0 line are.3 is)
+pub torn_after : (lines : List PlacedLine) (entries : List LogEntry) (writes : List WriteEntry) (torn : List LinePosition) (line : PlacedLine)
+    → AreSaid lines entries writes torn → IsTorn line → AreSaid (lines ++ line ∷ []) entries writes (torn ++ line.place ∷ [])
+torn_after [] [] [] [] line are is = inr (inr ([], refl, is, tt))
+torn_after [] [] [] (t ∷ torn) line are is = absurd are
+torn_after [] [] (w ∷ writes) torn line are is = absurd are
+torn_after [] (e ∷ entries) writes torn line are is = absurd are
+torn_after (l ∷ lines) entries writes torn line (inl are) is = inl (are.0, are.1, are.2, are.3, torn_after lines are.1 writes torn line are.4 is)
+torn_after (l ∷ lines) entries writes torn line (inr (inl are)) is =
+    inr (inl (are.0, are.1, are.2, are.3, torn_after lines entries are.1 torn line are.4 is))
+torn_after (l ∷ lines) entries writes torn line (inr (inr are)) is =
+    inr (inr (are.0 ++ line.place ∷ [], ap (λ (ts : List LinePosition). ts ++ line.place ∷ []) are.1, are.2, torn_after lines entries writes are.0 line are.3 is))
 
 -- one line more, which is short
 pub short_after : (lines : List PlacedLine) (line : PlacedLine) → AreShort lines → is_long line.bytes ≡ false → AreShort (lines ++ line ∷ [])
@@ -62,6 +83,7 @@ bad_after lines line place why bad = record {
   later = bad.later ++ line ∷ [];
   whole = longer bad.before bad.later lines bad.line line bad.whole;
   entries = bad.entries;
+  writes = bad.writes;
   torn = bad.torn;
   said = bad.said;
   at = bad.at;

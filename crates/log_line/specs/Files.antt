@@ -1,4 +1,4 @@
--- What the files of a log say: a job on the first line of a file that counts, of one file or several, and a call on each other line.
+-- What the files of a log say: a job on the first line of a file that counts, of one file or several, and a call or a write on each other line.
 use Rattle.std.specs.Prelude.{◌≡◌, ◌⊎◌, ℕ, ◌+◌, ◌==◌, ⊤, Bool, true, false, not, List, [], ◌∷◌, ◌++◌, filter, Option, Some, None, Ok, if◌then◌else◌}
 use Rattle.std.specs.List.{AllByRecursion}
 use Rattle.job_calls.specs.Jobs.{Job}
@@ -11,11 +11,12 @@ use Rattle.faults.specs.Faults.{AnswerError}
 use Rattle.faults.specs.JobLines.{SaysJob, IsNoJob, HasNoJob}
 use Rattle.wire.specs.declared.fault.DecodeRefusal.{DecodeRefusal}
 use Rattle.log_line.specs.declared.entry.LogEntry.{LogEntry}
+use Rattle.log_line.specs.declared.entry.WriteEntry.{WriteEntry}
 use Rattle.log_line.specs.declared.entry.LinePosition.{LinePosition}
 use Rattle.log_line.specs.declared.log.Log.{Log}
 use Rattle.log_line.specs.declared.log.LogError.{LogError}
 use Rattle.log_line.specs.declared.log.LogError.TheVariants as unread
-use Rattle.log_line.specs.Lines.{SaysLine, SaysNoLine}
+use Rattle.log_line.specs.Lines.{SaysLine, SaysNoLine, SaysWrite}
 
 -- LINES
 
@@ -131,42 +132,48 @@ pub record AreOtherJobs (jobs : List PlacedLine) (first second : LinePosition) :
   pub says : SaysJob line.bytes other
   pub differs : other ≡ job → ⊥
 
--- THE CALLS
+-- THE CALLS AND THE WRITES
 
 -- each entry is what the line at its place says
 pub record IsSaid (line : PlacedLine) (entry : LogEntry) : Type 0 where
   pub same_place : entry.place ≡ line.place
   pub says : SaysLine line.bytes entry.line
 
--- a last line without its end says no call: its writer may have stopped in the middle of it
+pub record IsWritten (line : PlacedLine) (entry : WriteEntry) : Type 0 where
+  pub same_place : entry.place ≡ line.place
+  pub says : SaysWrite line.bytes entry.write
+
+-- a last line without its end says nothing: its writer may have stopped in the middle of it
 pub record IsTorn (line : PlacedLine) : Type 0 where
   pub unended : line.ended ≡ false
   pub why : DecodeRefusal
   pub says : SaysNoLine line.bytes why
 
--- lines say calls, which are these entries, in order, but for those at these places, which are torn and left out
-abbrev pub AreSaid : List PlacedLine → List LogEntry → List LinePosition → Type 0
-AreSaid [] [] [] = ⊤
-AreSaid [] _ _ = ⊥
-AreSaid (line ∷ lines) entries torn =
-    ((entry : LogEntry) × (later : List LogEntry) × (entries ≡ entry ∷ later) × IsSaid line entry × AreSaid lines later torn)
-    ⊎ ((later : List LinePosition) × (torn ≡ line.place ∷ later) × IsTorn line × AreSaid lines entries later)
+-- lines say calls, which are these entries, and writes, both in order, but for those at these places, which are torn and left out
+abbrev pub AreSaid : List PlacedLine → List LogEntry → List WriteEntry → List LinePosition → Type 0
+AreSaid [] [] [] [] = ⊤
+AreSaid [] _ _ _ = ⊥
+AreSaid (line ∷ lines) entries writes torn =
+    ((entry : LogEntry) × (later : List LogEntry) × (entries ≡ entry ∷ later) × IsSaid line entry × AreSaid lines later writes torn)
+    ⊎ ((entry : WriteEntry) × (later : List WriteEntry) × (writes ≡ entry ∷ later) × IsWritten line entry × AreSaid lines entries later torn)
+    ⊎ ((later : List LinePosition) × (torn ≡ line.place ∷ later) × IsTorn line × AreSaid lines entries writes later)
 
--- the lines before this place say calls, or are torn, and the one that stands there says none, for this reason
+-- the lines before this place say calls and writes, or are torn, and the one that stands there says neither, for this reason
 pub record IsBadLine (lines : List PlacedLine) (place : LinePosition) (why : DecodeRefusal) : Type 0 where
   pub before : List PlacedLine
   pub line : PlacedLine
   pub later : List PlacedLine
   pub whole : lines ≡ before ++ line ∷ later
   pub entries : List LogEntry
+  pub writes : List WriteEntry
   pub torn : List LinePosition
-  pub said : AreSaid before entries torn
+  pub said : AreSaid before entries writes torn
   pub at : line.place ≡ place
   pub ended : line.ended ≡ true
   pub says : SaysNoLine line.bytes why
 
--- a log: no line is too long; a first line of a file that has a job says the job of the log, there is such a line, and the others say calls,
--- in the order of the lines
+-- a log: no line is too long; a first line of a file that has a job says the job of the log, there is such a line, and the others say calls
+-- and writes, in the order of the lines
 pub record IsLog (lines : List PlacedLine) (log : Log) : Type 0 where
   pub short : AreShort lines
   pub jobs : List PlacedLine
@@ -174,7 +181,8 @@ pub record IsLog (lines : List PlacedLine) (log : Log) : Type 0 where
   pub parted : AreParted None (counted lines) jobs others
   pub some : jobs ≡ [] → ⊥
   pub job : AreOfJob jobs log.job
-  pub calls : AreSaid others log.entries.items log.torn.items
+  pub writes : List WriteEntry
+  pub calls : AreSaid others log.entries.items writes log.torn.items
 
 -- the lines before this place are short, and the one that stands there is too long
 pub record HasLongLine (lines : List PlacedLine) (place : LinePosition) : Type 0 where
@@ -212,7 +220,7 @@ pub record HasOtherJobs (lines : List PlacedLine) (first second : LinePosition) 
   pub parted : AreParted None lines jobs others
   pub differ : AreOtherJobs jobs first second
 
--- the job lines say one job, and another line no call
+-- the job lines say one job, and another line neither a call nor a write
 pub record HasBadCall (lines : List PlacedLine) (place : LinePosition) (why : DecodeRefusal) : Type 0 where
   pub jobs : List PlacedLine
   pub others : List PlacedLine
@@ -223,7 +231,7 @@ pub record HasBadCall (lines : List PlacedLine) (place : LinePosition) (why : De
   pub bad : IsBadLine others place why
 
 -- why no log was read: the first line that is too long, or else what is wrong with its job lines, or else the first other line that counts
--- and says no call, or memory ran out
+-- and says neither a call nor a write, or memory ran out
 abbrev pub IsUnread : List PlacedLine → LogError → Type 0
 IsUnread lines unread.Empty = AreShort lines × (counted lines ≡ [])
 IsUnread lines (unread.LongLine place) = HasLongLine lines place

@@ -4,6 +4,7 @@ pub mod Keys
 pub mod OwnCalls
 pub mod MessageCalls
 pub mod Lines
+pub mod Writes
 pub mod Files
 pub mod Readers
 pub mod Calls

@@ -40,9 +40,9 @@ pub record AreJobLines (lines others : List PlacedLine) (taken : JobLines) : Typ
   pub before : taken.before ≡ file_after None lines
   pub parted : AreParted None lines (map kept taken.jobs.items) others
 
--- what lines say: calls, or a first one no call
+-- what lines say: calls and writes, or a first one neither
 abbrev pub AreCallsUpTo : List PlacedLine → CallLines → Option BadLine → Type 0
-AreCallsUpTo lines taken None = AreSaid lines taken.entries.items taken.torn.items
+AreCallsUpTo lines taken None = AreSaid lines taken.entries.items taken.writes.items taken.torn.items
 AreCallsUpTo lines taken (Some bad) = IsBadLine lines bad.place bad.why
 
 abbrev pub AreCallLines : List PlacedLine → CallLines → Type 0
@@ -79,9 +79,10 @@ abbrev pub first_bytes : List PlacedLine → List ℕ
 first_bytes [] = []
 first_bytes (line ∷ lines) = line.bytes
 
--- lines are this log, and this is its first job line
+-- lines are this log, these are its writes, and this is its first job line
 pub record IsReadLog (lines : List PlacedLine) (read : ReadLog) : Type 0 where
   pub log : IsLog lines read.log
+  pub writes : log.writes ≡ read.writes.items
   pub jobs : List PlacedLine
   pub others : List PlacedLine
   pub parted : AreParted None (counted lines) jobs others

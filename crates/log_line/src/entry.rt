@@ -1,6 +1,7 @@
 //! Lines of a log with their positions.
 
 use crate::line::LoggedLine;
+use crate::write::LoggedWrite;
 
 /// The position of a line: the file, counted from 0, and the line in it, counted from 1.
 #[derive(Clone, Copy, Debug, PartialEq, Eq, PartialOrd, Ord)]
@@ -18,4 +19,13 @@ pub struct LogEntry {
     pub place: LinePosition,
     /// The line.
     pub line: LoggedLine,
+}
+
+/// A line of a write with its position.
+#[derive(Clone, Copy, Debug, PartialEq, Eq)]
+pub struct WriteEntry {
+    /// The position of the line.
+    pub place: LinePosition,
+    /// The write.
+    pub write: LoggedWrite,
 }

@@ -16,12 +16,12 @@ pub struct Log {
     pub job: Job,
     /// The calls.
     pub entries: Vec<LogEntry>,
-    /// The positions of last lines that were left out: they lack their end, and are not calls.
+    /// The positions of last lines that were left out: they lack their end, and say nothing.
     pub torn: Vec<LinePosition>,
 }
 
 /// Why a log cannot be read: its first line that is too long, or else what is wrong with its job
-/// lines, or else its first other line that is not a call.
+/// lines, or else its first other line that is neither a call nor a write.
 #[derive(Debug, Drop)]
 pub enum LogError {
     /// There are no lines that count.
@@ -40,7 +40,7 @@ pub enum LogError {
         /// The position of the first one whose job differs from its.
         second: LinePosition,
     },
-    /// A line that is not a job line is not a call.
+    /// A line that is not a job line is neither a call nor a write.
     BadLine {
         place: LinePosition,
         why: DecodeRefusal,

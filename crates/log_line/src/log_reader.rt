@@ -6,7 +6,7 @@ ghost use Rattle.log_line.specs.Readers.{AreTaken, IsReading, IsReadLog, first_b
 ghost use Rattle.log_line.specs.internals.Parts.{AreFewer, EndsLine, IsPartRead};
 
 use crate::call_lines::{BadLine, CallLines};
-use crate::entry::LinePosition;
+use crate::entry::{LinePosition, WriteEntry};
 use crate::job_lines::{JobLines, job_of};
 use crate::lines::{KeptLine, LineBytes, first_part};
 use crate::log::{Log, LogError};
@@ -21,7 +21,7 @@ pub struct TakenLines {
     pub long: Option<LinePosition>,
     /// The job lines before it.
     pub jobs: JobLines,
-    /// The calls before it.
+    /// The calls and the writes before it.
     pub calls: CallLines,
 }
 
@@ -30,6 +30,8 @@ pub struct TakenLines {
 pub struct ReadLog {
     /// The log.
     pub log: Log,
+    /// The writes to stores, in the order of the lines.
+    pub writes: Vec<WriteEntry>,
     /// Its first job line, without the end of the line.
     pub job_line: Vec<u8>,
 }
@@ -87,23 +89,32 @@ impl TakenLines {
             return Err(LogError::Empty);
         };
         let job = job_of(alloc, jobs.jobs.as_slice(), first)?;
-        let CallLines { entries, torn, bad } = calls;
+        let CallLines {
+            entries,
+            writes,
+            torn,
+            bad,
+        } = calls;
         if let Some(BadLine { place, why, mend }) = bad {
             return Err(LogError::BadLine { place, why, mend });
         }
         let job_line = first_bytes(alloc, jobs.jobs.as_slice())?;
         let log = Log { job, entries, torn };
-        Ok(ReadLog { log, job_line })
+        Ok(ReadLog {
+            log,
+            writes,
+            job_line,
+        })
     }
 }
 
 /// Reads a log from the bytes of its files, which come in pieces.
 ///
-/// The first line of one file or several is the job line, and each other line is a call. Blank
-/// lines do not count. A last line of a file without its end counts if it is a call, and is left out
-/// if it is not.
+/// The first line of one file or several is the job line, and each other line is a call or a write.
+/// Blank lines do not count. A last line of a file without its end counts if it is one of the two, and
+/// is left out if it is not.
 ///
-/// It holds the calls, and of the bytes only the job lines and the line that has not ended.
+/// It holds the calls and the writes, and of the bytes only the job lines and the line that has not ended.
 #[derive(Debug, Drop)]
 pub struct LogReader {
     alloc: Global,
@@ -204,7 +215,7 @@ impl LogReader {
     ///
     /// An error names the first line that is longer than [`program_io::MOST_LINE_BYTES`], or else the
     /// first job line that is not valid, or has another job than those before it, or else the first
-    /// other line that is not a call, or says that memory ran out. If there is no job line, the error
+    /// other line that is neither a call nor a write, or says that memory ran out. If there is no job line, the error
     /// names the first line.
     pub fn finish(self) -> Result<ReadLog, LogError>
         ensures ok { (files : List (List ℕ)) → IsReading files [] self

@@ -1,6 +1,7 @@
-//! How to fix a line that is not a call.
+//! How to fix a line that is neither a call nor a write.
 
 use crate::own_calls::bare_grant_of;
+use crate::write_line::{is_store_reply, is_token_text};
 use faults::{Found, Members, Quoted, Wanted, WrongMember, missing_member, unknown_member};
 use program_io::{Unread, list_of};
 use serde_json::Value;
@@ -9,7 +10,7 @@ use std::alloc::{AllocError, Global};
 use std::fmt;
 use wire::{DecodeError, EitherSlice, Numerals, grant_of, handle_of, note_of, numeral_of};
 
-/// The members of each call, in the order in which they are checked. One that may be left out comes last.
+/// The members of each call and of a write, in the order in which they are checked. One that may be left out comes last.
 const CALLS: &[(&str, &[&str])] = &[
     ("take", &["ticket", "reply", "assigner", "at"]),
     ("renew", &["ticket", "reply", "term", "at"]),
@@ -45,6 +46,7 @@ const CALLS: &[(&str, &[&str])] = &[
     ),
     ("look", &["ticket", "reply", "clerk", "key"]),
     ("forget", &["ticket", "reply", "clerk"]),
+    ("write", &["ticket", "reply", "key", "token", "revision"]),
 ];
 
 /// The same for calls that name a slice key in place of a key.
@@ -52,6 +54,10 @@ const SLICE_KEY_CALLS: &[(&str, &[&str])] = &[
     ("serve", &["ticket", "reply", "task", "slice_key", "at"]),
     ("hold", &["ticket", "reply", "task", "slice_key", "at"]),
     ("look", &["ticket", "reply", "clerk", "slice_key"]),
+    (
+        "write",
+        &["ticket", "reply", "slice_key", "token", "revision"],
+    ),
 ];
 
 /// What a member must be, for members that steps of scripts do not have.
@@ -61,12 +67,16 @@ enum Delivered {
     Grant,
     Note,
     Handle,
+    StoreReply,
+    Token,
 }
 
 impl Delivered {
     // Returns what the member with this name must be, if steps do not have it.
-    fn of(name: &str) -> Option<Delivered> {
+    fn of(call: &str, name: &str) -> Option<Delivered> {
         match name {
+            "reply" if call == "write" => Some(Delivered::StoreReply),
+            "token" => Some(Delivered::Token),
             "reply" => Some(Delivered::Words),
             "grant" => Some(Delivered::Grant),
             "note" => Some(Delivered::Note),
@@ -81,6 +91,8 @@ impl Delivered {
             Delivered::Grant => is_grant(alloc, value),
             Delivered::Note => Ok(note_of(Numerals::Either, value).is_ok()),
             Delivered::Handle => Ok(handle_of(Numerals::Either, value).is_ok()),
+            Delivered::StoreReply => Ok(value.as_str().is_some_and(is_store_reply)),
+            Delivered::Token => Ok(value.as_str().is_some_and(is_token_text)),
         }
     }
 }
@@ -93,6 +105,8 @@ impl fmt::Display for Delivered {
                 "a grant {\"number\", \"task\", \"life\", \"kind\", \"generation\", \"ends\", \"until\"}, with or without \"ranges\""
             }
             Delivered::Note => "a release note {\"task\", \"life\", \"kind\", \"number\"}",
+            Delivered::StoreReply => "\"taken\", \"refused\" or \"unknown\"",
+            Delivered::Token => "the 32 hexadecimal digits of a token",
             Delivered::Handle => "a key handle {\"task\", \"life\", \"slice_key\", \"position\"}",
         })
     }
@@ -122,7 +136,8 @@ fn is_of_message(alloc: Global, name: &str, value: &Value) -> Result<bool, Alloc
         | "deadline"
         | "sent"
         | "reading"
-        | "now" => { Ok(numeral_of(Numerals::Quoted, value).is_ok()) }
+        | "now"
+        | "revision" => { Ok(numeral_of(Numerals::Quoted, value).is_ok()) }
         "slice_key" => match numeral_of(Numerals::Quoted, value) {
             Ok(key) => Ok(SliceKey::new(key).is_some()),
             Err(_) => Ok(false),
@@ -157,7 +172,7 @@ fn member_mend(
     name: &'static str,
     value: &Value,
 ) -> Result<Option<String>, AllocError> {
-    if let Some(delivered) = Delivered::of(name) {
+    if let Some(delivered) = Delivered::of(call, name) {
         if delivered.is_met(alloc, value)? {
             return Ok(None);
         }
@@ -179,9 +194,13 @@ fn member_mend(
     Ok(Some(format!(in alloc; "{wrong}")?))
 }
 
-// Whether a call may leave the member with this name out.
+// Whether a call or a write may leave the member with this name out.
 fn is_optional(call: &str, name: &str) -> bool {
-    call == "learn" && name == "slices"
+    match call {
+        "learn" => name == "slices",
+        "write" => name == "revision",
+        _ => false,
+    }
 }
 
 // Returns how to fix the members of a call.
@@ -205,10 +224,16 @@ fn members_mend(alloc: Global, members: Members, line: &Value) -> Result<String,
             }
         }
     }
+    if call == "write" {
+        return String::from_str(
+            alloc,
+            "write: only a write that was \"taken\" has a \"revision\"",
+        );
+    }
     format!(in alloc; "{call}: {members}")
 }
 
-/// Returns how to fix a value that is not a call.
+/// Returns how to fix a value that is neither a call nor a write.
 pub fn call_mend(alloc: Global, line: &Value) -> Result<String, AllocError> {
     if !line.is_object() {
         return format!(in alloc; "found {}; a call must be an object", Found(line));

@@ -12,5 +12,6 @@ pub mod Callers
 pub mod Coarse
 pub mod Reports
 pub mod DriftReports
+pub mod FenceReports
 pub mod Audits
 pub mod internals

@@ -11,13 +11,14 @@ ghost use Rattle.log_run.specs.Starts.{BeginsAt};
 
 use crate::comparing::later_wrong_replies;
 use crate::drift_text::drift_text;
+use crate::fence_text::fence_told;
 use crate::finding::Finding;
 use crate::hint::hint_for;
 use crate::judging::{Found, find_calls};
 use crate::report::{NamedEntries, report_of};
 use clocks::Drift;
 use job_calls::ClusterSnapshot;
-use log_line::{LinePosition, Log, Progress};
+use log_line::{LinePosition, Log, Progress, WriteEntry};
 use log_run::{Start, drift_fault};
 use std::alloc::{AllocError, Global};
 
@@ -41,6 +42,8 @@ pub struct LogReport {
     pub is_timely: bool,
     /// Whether no sample shows that clocks did not keep the drift; true if none is judged.
     pub keeps_drift: bool,
+    /// Whether the law of fencing tokens rules out no write; true if none is judged.
+    pub is_fenced: bool,
     /// The lines of the report.
     pub text: String,
     /// The positions of last lines that were left out: they lack their end, and are not calls.
@@ -112,16 +115,17 @@ fn unsent_line(goes_on: bool, finding: &Finding, all_sent: bool) -> &'static str
 }
 
 // Returns a text with these lines after it.
-fn with_lines(text: String, first: &str, second: &str) -> Result<String, AllocError>
-    ensures { IfOk result (λ whole. string_bytes whole ≡ string_bytes text ++ (first.now ++ second.now)) }
+fn with_lines(text: String, first: &str, second: &str, third: &str) -> Result<String, AllocError>
+    ensures { IfOk result (λ whole. string_bytes whole ≡ string_bytes text ++ (first.now ++ (second.now ++ third.now))) }
 {
     let mut whole = text;
     whole.push_str(first)?;
     whole.push_str(second)?;
+    whole.push_str(third)?;
     Ok(whole)
 }
 
-/// Judges the calls of a log in the order of their tickets.
+/// Judges the calls and the writes of a log in the order of their tickets.
 ///
 /// `names` are the names of the files, and `earlier` is a snapshot of the machines after the calls
 /// of earlier logs, one that [`Cluster::resume`](cluster::Cluster::resume) takes. Fails if memory
@@ -130,12 +134,13 @@ pub fn audit_log<P: Progress>(
     alloc: Global,
     names: &[&str],
     log: Log,
+    writes: &[WriteEntry],
     earlier: Option<ClusterSnapshot>,
     options: AuditOptions,
     progress: &mut P,
 ) -> Result<LogReport, AllocError>
-    ensures { (files : List (List ℕ)) (job : Continued) → IsLog (lines_from 0 files) log → BeginsAt job log.job earlier
-        → IfOk result (IsAudited job earlier (map (λ n. n.now) names.now) files options) }
+    ensures { (files : List (List ℕ)) (job : Continued) (reads : IsLog (lines_from 0 files) log) → reads.writes ≡ writes.now
+        → BeginsAt job log.job earlier → IfOk result (IsAudited job earlier (map (λ n. n.now) names.now) files options) }
 {
     let Log {
         job,
@@ -157,11 +162,14 @@ pub fn audit_log<P: Progress>(
     let text = report_of(alloc, job, named, &finding, hint, later.as_slice())?;
     let told = drift_told(alloc, options.drift, named, &finding)?;
     let unsent = unsent_line(goes_on, &finding, all_sent);
-    let text = with_lines(text, told.line.as_str(), unsent)?;
+    let one = is_one(&finding);
+    let fence = fence_told(alloc, &start, named, writes, one)?;
+    let text = with_lines(text, told.line.as_str(), unsent, fence.line.as_str())?;
     Ok(LogReport {
-        is_one: is_one(&finding),
+        is_one: one,
         is_timely: is_timely(&finding),
         keeps_drift: told.is_kept,
+        is_fenced: fence.is_fenced,
         text,
         torn,
         state,

@@ -9,6 +9,7 @@ mod causes;
 mod coarse;
 mod comparing;
 mod drift_text;
+mod fence_text;
 mod finding;
 mod hint;
 mod judging;

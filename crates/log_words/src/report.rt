@@ -30,8 +30,8 @@ pub struct NamedEntries<'a> {
     pub entries: &'a [LogEntry],
 }
 
-// Returns the name of a file, or nothing if it has none.
-fn name_of<'a>(names: &'a [&'a str], file: usize) -> &'a str
+/// Returns the name of a file, or nothing if it has none.
+pub(crate) fn name_of<'a>(names: &'a [&'a str], file: usize) -> &'a str
     ensures { result.now ≡ name_text (slice_get (map (λ n. n.now) names.now) file) }
 {
     match names.get(file) {

@@ -1,3 +1,4 @@
+use Rattle.std.proofs.Common.{◌∙◌, sym}
 use Rattle.command.proofs.log_audit.judge.Goals as goal
 
 pub returns-clause-ok : goal.returns-clause-ok
@@ -11,5 +12,5 @@ returns-clause-ok g c =
       read = opened.read;
       log = _;
       says = opened.log.log;
-      audited = λ job begins. c.in_ok-report.ensures opened.files job opened.log.log begins;
+      audited = λ job begins. c.in_ok-report.ensures opened.files job opened.log.log (opened.log.writes ∙ sym c.as_slice.ensures.value) begins;
     }

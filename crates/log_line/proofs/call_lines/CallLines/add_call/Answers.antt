@@ -7,5 +7,5 @@ use Rattle.log_line.proofs.call_lines.CallLines.add_call.Goals as goal
 pub returns : goal.returns
 returns c = λ lines known none says.
     let so_far = calls_so_far lines c.args.self.now None none refl known in
-    calls_are _ (record { entries = c.push.new.self; torn = c.args.self.now.torn; bad = c.args.self.now.bad }) none
-    (rw c.in_ok-push.ensures.items (said_after lines c.args.self.now.entries.items c.args.self.now.torn.items _ _ so_far (record { same_place = refl; says = says })))
+    calls_are _ (record { entries = c.push.new.self; writes = c.args.self.now.writes; torn = c.args.self.now.torn; bad = c.args.self.now.bad }) none
+    (rw c.in_ok-push.ensures.items (said_after lines c.args.self.now.entries.items c.args.self.now.writes.items c.args.self.now.torn.items _ _ so_far (record { same_place = refl; says = says })))

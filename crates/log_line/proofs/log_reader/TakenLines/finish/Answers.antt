@@ -21,7 +21,8 @@ returns-clause-ok c = λ lines taken.
     let so_far = calls_so_far short.others c.args.self.calls None (search rules) refl short.calls in
     let front = rw c.as_slice-2.ensures.value at c.in_ok-job_line.ensures in
     record {
-      log = is_log lines _ short.others _ first.0 short.short first.1 short.jobs.parted _ (rw c.as_slice.ensures.value at c.in_ok-job.ensures.ok) so_far;
+      log = is_log lines _ short.others _ first.0 short.short first.1 short.jobs.parted _ _ (rw c.as_slice.ensures.value at c.in_ok-job.ensures.ok) so_far;
+      writes = refl;
       jobs = map kept c.args.self.jobs.jobs.items;
       others = short.others;
       parted = short.jobs.parted;
