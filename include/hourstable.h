@@ -975,6 +975,28 @@ int32_t hs_clock_evidence(const uint8_t *job, size_t job_len, const uint8_t *gra
 int32_t hs_log_line(const uint8_t *job, size_t job_len, const struct hs_logged_call *call, const uint8_t *message,
                     size_t message_len, uint8_t *out, size_t out_len, size_t *needed);
 
+/* What a store said of a write: see hs_log_write. */
+enum hs_store_reply {
+    HS_STORE_NUMBERED = 1, /* it took the write, and gave it `revision` */
+    HS_STORE_TAKEN = 2,    /* it took the write, and gives no revisions */
+    HS_STORE_REFUSED = 3,  /* it refused the write: it had taken one of the key with a greater token */
+    HS_STORE_UNKNOWN = 4   /* no answer came */
+};
+
+/* A write to a store, for hs_log_write. Zero it, and set each member. */
+struct hs_logged_write {
+    uint64_t ticket;       /* that of the call with which the task got the token, or a later one */
+    uint64_t slice_key;    /* hs_slice_key of the key */
+    uint64_t revision;     /* HS_STORE_NUMBERED: of two writes of a key, the one taken later has the greater one */
+    struct hs_token token; /* the token that went with the write */
+    uint32_t reply;        /* an hs_store_reply */
+};
+
+/* Writes the line of a write to a store that compares fencing tokens, ended by a line feed: an audit
+ * judges it by the calls with which tasks got their tokens. HS_WRONG_FORM if the slice key or the reply is
+ * outside its limits, then HS_NO_ROOM or HS_NO_MEMORY. */
+int32_t hs_log_write(const struct hs_logged_write *write, uint8_t *out, size_t out_len, size_t *needed);
+
 #ifdef __cplusplus
 }
 #endif

@@ -337,6 +337,10 @@ int32_t guarded_log_line(const uint8_t *job, size_t job_len, const struct hs_log
     return returned(hs_log_line(NAME, READ(call), READ_ALL(message, message_len), OUT));
 }
 
+int32_t guarded_log_write(const struct hs_logged_write *write, uint8_t *out, size_t out_len, size_t *needed) {
+    return returned(hs_log_write(READ(write), OUT));
+}
+
 int32_t guarded_plan(const uint8_t *job, size_t job_len, const uint8_t *assignment, size_t assignment_len,
                      const uint64_t *loads, size_t loads_len, const uint64_t *tasks, size_t tasks_len,
                      const struct hs_plan_policy *policy, uint8_t *out, size_t out_len, size_t *needed) {

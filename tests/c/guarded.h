@@ -101,6 +101,7 @@ int32_t guarded_assigner_next(const struct hs_place *place, uint64_t at, const s
                               uint32_t *action, uint64_t *number);
 int32_t guarded_log_line(const uint8_t *job, size_t job_len, const struct hs_logged_call *call, const uint8_t *message,
                          size_t message_len, uint8_t *out, size_t out_len, size_t *needed);
+int32_t guarded_log_write(const struct hs_logged_write *write, uint8_t *out, size_t out_len, size_t *needed);
 int32_t guarded_plan(const uint8_t *job, size_t job_len, const uint8_t *assignment, size_t assignment_len,
                      const uint64_t *loads, size_t loads_len, const uint64_t *tasks, size_t tasks_len,
                      const struct hs_plan_policy *policy, uint8_t *out, size_t out_len, size_t *needed);
@@ -177,6 +178,7 @@ int32_t guarded_clock_evidence(const uint8_t *job, size_t job_len, const uint8_t
 #define hs_assigner_drop_term guarded_assigner_drop_term
 #define hs_assigner_next guarded_assigner_next
 #define hs_log_line guarded_log_line
+#define hs_log_write guarded_log_write
 #define hs_plan guarded_plan
 #define hs_task_clock_new guarded_task_clock_new
 #define hs_task_clock_sample guarded_task_clock_sample

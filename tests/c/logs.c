@@ -292,6 +292,53 @@ static void messages(void) {
        HS_WRONG_FORM);
 }
 
+/* A write in which each member is another number. */
+static struct hs_logged_write write_of(uint32_t reply) {
+    return (struct hs_logged_write){.ticket = 7,
+                                    .slice_key = KEYS - 1,
+                                    .revision = UINT64_MAX,
+                                    .token = {{0, 0, 0, 1, 0, 0, 0, 0, 0, 0, 0, 0xab, 0xff, 0, 0, 2}},
+                                    .reply = reply};
+}
+
+/* The line of a write is this text and a line feed. A buffer that is one byte too short is told the length. */
+static void is_written(uint32_t reply, const char *wanted) {
+    static uint8_t out[1024];
+    struct hs_logged_write write = write_of(reply);
+    size_t length = strlen(wanted), needed = UNTOLD;
+    memset(out, '-', sizeof out);
+    IS(hs_log_write(&write, out, length, &needed), HS_NO_ROOM);
+    HOLDS(needed == length + 1 && are_dashes(out, sizeof out));
+    IS(hs_log_write(&write, out, length + 1, &needed), HS_DONE);
+    HOLDS(needed == length + 1 && memcmp(out, wanted, length) == 0 && out[length] == '\n');
+    HOLDS(are_dashes(out + needed, sizeof out - needed));
+}
+
+static void no_write(struct hs_logged_write write) {
+    static uint8_t out[1024];
+    size_t needed = UNTOLD;
+    memset(out, '-', sizeof out);
+    IS(hs_log_write(&write, out, sizeof out, &needed), HS_WRONG_FORM);
+    HOLDS(needed == UNTOLD && are_dashes(out, sizeof out));
+}
+
+#define WRITE(reply)                                                                                                   \
+    "{\"do\":\"write\",\"reply\":\"" reply "\",\"slice_key\":9223372036854775807,\"ticket\":7," TOKEN "}"
+#define TOKEN "\"token\":\"0000000100000000000000abff000002\""
+
+static void writes(void) {
+    struct hs_logged_write beyond = write_of(HS_STORE_TAKEN);
+    is_written(HS_STORE_NUMBERED, "{\"do\":\"write\",\"reply\":\"taken\",\"revision\":18446744073709551615,"
+                                  "\"slice_key\":9223372036854775807,\"ticket\":7," TOKEN "}");
+    is_written(HS_STORE_TAKEN, WRITE("taken"));
+    is_written(HS_STORE_REFUSED, WRITE("refused"));
+    is_written(HS_STORE_UNKNOWN, WRITE("unknown"));
+    beyond.slice_key = KEYS;
+    no_write(beyond);
+    no_write(write_of(0));
+    no_write(write_of(5));
+}
+
 void check_logs(void) {
     table_lines();
     task_lines();
@@ -302,4 +349,5 @@ void check_logs(void) {
     numbers_beyond_limits();
     members_of_others();
     messages();
+    writes();
 }

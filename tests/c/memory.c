@@ -271,6 +271,17 @@ static int32_t log_proposal(struct hs_place *place) {
     return code;
 }
 
+static int32_t log_store_write(struct hs_place *place) {
+    const struct hs_logged_write write = {.ticket = 1, .slice_key = 2, .revision = 3, .reply = HS_STORE_NUMBERED};
+    uint8_t out[256];
+    size_t needed = UNTOLD;
+    (void)place;
+    memset(out, '-', sizeof out);
+    int32_t code = hs_log_write(&write, out, sizeof out, &needed);
+    HOLDS(code == HS_DONE ? needed < sizeof out : needed == UNTOLD && are_dashes(out, sizeof out));
+    return code;
+}
+
 static int32_t gather_more(struct hs_place *place) {
     const char *text = ASSIGNMENT("1", HALVES);
     const struct hs_load_record records[] = {{5, 1}, {(uint64_t)1 << 62, 2}, {6, 3}, {7, 4}, {8, 5}};
@@ -375,6 +386,7 @@ void check_memory(void) {
         {"gather", counting_book, gather_more, load_book_state},
         {"plan", knowing_clerk, plan, clerk_state},
         {"log line", knowing_clerk, log_proposal, clerk_state},
+        {"log write", knowing_clerk, log_store_write, clerk_state},
         {"evidence", knowing_clerk, weigh, clerk_state},
         {"read grant", knowing_clerk, read_grant, clerk_state},
         {"permitted", serving_task, list_permitted, slicelet_state},

@@ -4,5 +4,6 @@ pub mod Written
 pub mod PlainLines
 pub mod MessageReads
 pub mod Giving
+pub mod WriteLines
 pub mod Receiving
 pub mod Entering

@@ -7,5 +7,6 @@ pub mod Replies
 pub mod LineData
 pub mod PlainLines
 pub mod Lines
+pub mod Writes
 pub mod Blocks
 pub mod Receipts

@@ -213,6 +213,14 @@ pub const HS_CALL_LOOK: u32 = 18;
 pub const HS_CALL_FORGET: u32 = 19;
 /// hs_task_clock_sample
 pub const HS_CALL_SAMPLE: u32 = 20;
+/// it took the write, and gave it `revision`
+pub const HS_STORE_NUMBERED: u32 = 1;
+/// it took the write, and gives no revisions
+pub const HS_STORE_TAKEN: u32 = 2;
+/// it refused the write: it had taken one of the key with a greater token
+pub const HS_STORE_REFUSED: u32 = 3;
+/// no answer came
+pub const HS_STORE_UNKNOWN: u32 = 4;
 
 /// Numbers that a code comes with. A call sets just the fields that its code names, unless its comment
 /// says otherwise: hs_slicelet_hear, _serve, _serve_at, _hold and _hold_at tell a lease where they are
@@ -521,6 +529,22 @@ pub struct hs_token {
     pub bytes: [u8; 16],
 }
 
+/// A write to a store, for hs_log_write. Zero it, and set each member.
+#[repr(C)]
+#[derive(Clone, Copy, Debug, Default, PartialEq, Eq)]
+pub struct hs_logged_write {
+    /// that of the call with which the task got the token, or a later one
+    pub ticket: u64,
+    /// hs_slice_key of the key
+    pub slice_key: u64,
+    /// HS_STORE_NUMBERED: of two writes of a key, the one taken later has the greater one
+    pub revision: u64,
+    /// the token that went with the write
+    pub token: hs_token,
+    /// an hs_store_reply
+    pub reply: u32,
+}
+
 extern "C" {
     /// Writes the version of the linked library to `out`.
     pub fn hs_library_version(out: *mut hs_library_version);
@@ -799,4 +823,8 @@ extern "C" {
     /// HS_NO_ROOM or HS_NO_MEMORY. Calls that may change a table share their codes here, and so do those
     /// that may change a slicelet: an audit finds one that the call does not return.
     pub fn hs_log_line(job: *const u8, job_len: usize, call: *const hs_logged_call, message: *const u8, message_len: usize, out: *mut u8, out_len: usize, needed: *mut usize) -> i32;
+    /// Writes the line of a write to a store that compares fencing tokens, ended by a line feed: an audit
+    /// judges it by the calls with which tasks got their tokens. HS_WRONG_FORM if the slice key or the reply is
+    /// outside its limits, then HS_NO_ROOM or HS_NO_MEMORY.
+    pub fn hs_log_write(write: *const hs_logged_write, out: *mut u8, out_len: usize, needed: *mut usize) -> i32;
 }
