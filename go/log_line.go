@@ -72,6 +72,47 @@ func LogLine(job string, call LoggedCall, message []byte) ([]byte, error) {
 	})
 }
 
+// StoreReply is what a store said of a write.
+type StoreReply uint32
+
+// What a store said: it took the write, it refused it, or no answer came.
+const (
+	WriteTaken   = StoreReply(C.HS_STORE_TAKEN)
+	WriteRefused = StoreReply(C.HS_STORE_REFUSED)
+	WriteUnknown = StoreReply(C.HS_STORE_UNKNOWN)
+)
+
+// LoggedWrite is a write to a store that compares fencing tokens, for LogWrite.
+type LoggedWrite struct {
+	Ticket   uint64 // that of the call with which the task got the token, or a later one
+	SliceKey uint64
+	Token    Token
+	Reply    StoreReply
+
+	// Revision is the number that the store gave a write that it took: of two writes of a
+	// key, the one that it took later has the greater one. nil if it gave none.
+	Revision *uint64
+}
+
+// LogWrite returns the line of a write for hourstable audit (docs/AUDIT.md), with its line
+// feed. ErrWrongForm if there is no such slice key or reply, or a write that was not taken
+// has a revision.
+func LogWrite(write LoggedWrite) ([]byte, error) {
+	given := C.struct_hs_logged_write{
+		ticket: C.uint64_t(write.Ticket), slice_key: C.uint64_t(write.SliceKey), token: *write.Token.c(),
+		reply: C.uint32_t(write.Reply),
+	}
+	if write.Reply == C.HS_STORE_NUMBERED || write.Revision != nil && write.Reply != WriteTaken {
+		return nil, ErrWrongForm
+	}
+	if write.Revision != nil {
+		given.revision, given.reply = C.uint64_t(*write.Revision), C.HS_STORE_NUMBERED
+	}
+	return text(LineRoom, func(to buffer) C.int32_t {
+		return C.hs_log_write(&given, to.at, to.length, to.needed)
+	})
+}
+
 func (l LoggedCall) c() C.struct_hs_logged_call {
 	it := C.struct_hs_logged_call{
 		ticket: C.uint64_t(l.Ticket), call: C.uint32_t(l.Call), task: C.uint64_t(l.Task), clerk: C.uint64_t(l.Clerk),

@@ -75,6 +75,31 @@ func TestReceiveWithNoClock(t *testing.T) {
 }
 
 // The lines are those of docs/AUDIT.md.
+// A write has the line of docs/AUDIT.md, and one that no store answers so has none.
+func TestLogWrite(t *testing.T) {
+	revision, token := uint64(1<<63), TokenOf(1, 0xabff, 2)
+	for reply, wanted := range map[StoreReply]string{WriteTaken: "taken", WriteRefused: "refused", WriteUnknown: "unknown"} {
+		line, err := LogWrite(LoggedWrite{Ticket: 7, SliceKey: 9, Token: token, Reply: reply})
+		told := `{"do":"write","reply":"` + wanted + `","slice_key":9,"ticket":7,"token":"00000001000000000000abff00000002"}`
+		if err != nil || string(line) != told+"\n" {
+			t.Errorf("the line is %s, %v, and not %s", line, err, told)
+		}
+		write := LoggedWrite{Ticket: 7, SliceKey: 9, Token: token, Reply: reply, Revision: &revision}
+		line, err = LogWrite(write)
+		if reply == WriteTaken && (err != nil || !strings.Contains(string(line), `"revision":9223372036854775808,`)) {
+			t.Errorf("the line is %s, %v", line, err)
+		}
+		if reply != WriteTaken && !errors.Is(err, ErrWrongForm) {
+			t.Errorf("a write that was %s has a revision: %s, %v", wanted, line, err)
+		}
+	}
+	for _, wrong := range []LoggedWrite{{SliceKey: 1 << 63, Reply: WriteTaken}, {}, {Reply: 5}, {Reply: 1}} {
+		if line, err := LogWrite(wrong); !errors.Is(err, ErrWrongForm) {
+			t.Errorf("%+v has the line %s, %v", wrong, line, err)
+		}
+	}
+}
+
 func TestLogLine(t *testing.T) {
 	note := []byte(`{"job":"shop","type":"note","value":{"kind":"guard","life":1,"number":"7","task":2},"version":2}`)
 	handle := Handle{Task: 2, SliceKey: 5, Position: 9, Life: 1}

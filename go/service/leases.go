@@ -266,6 +266,7 @@ func (l *leases) enter(lease *Lease) error {
 		err := l.slicelet.EnterAt(l.clock, l.local, lease.sliceKey, block)
 		lease.Kind, lease.Generation, lease.handle = block.Lease.Kind, block.Lease.Generation, block.Handle
 		lease.covering = block.Lease.Covering
+		lease.ticket = block.Ticket
 		return err
 	})
 }
@@ -276,6 +277,20 @@ func (l *leases) check(lease *Lease) error {
 		block.Handle = lease.handle
 		return l.slicelet.Leave(l.clock, l.local, block)
 	})
+}
+
+// wrote writes the line of a write with the token of a lease, if its question was logged: an
+// audit knows no other token. It is no call of the slicelet, so it may come once the life
+// has ended.
+func (l *leases) wrote(lease *Lease, write hourstable.LoggedWrite) (err error) {
+	if write.Ticket, err = l.ticket(lease.ticket != 0); err != nil {
+		return err
+	}
+	line, err := hourstable.LogWrite(write)
+	if err == nil && write.Ticket != 0 {
+		l.append(line)
+	}
+	return err
 }
 
 // ask makes a call of a block, beside others, and writes its line.

@@ -17,6 +17,7 @@ type Lease struct {
 
 	sliceKey  uint64
 	covering  uint64 // the greatest generation of the leases that cover the key
+	ticket    uint64 // of the question in the log; 0 if it is not logged
 	isLogged  bool
 	isAllowed bool
 	handle    hourstable.Handle
@@ -60,6 +61,25 @@ func (l *Lease) Token() (hourstable.Token, error) {
 		return hourstable.Token{}, ErrNoEpoch
 	}
 	return hourstable.TokenOf(l.leases.epoch, l.covering, l.leases.life), nil
+}
+
+// Ticket returns the ticket of the question in the log, by which an audit finds the token;
+// 0 if the task does not log the answer.
+func (l *Lease) Ticket() uint64 { return l.ticket }
+
+// Wrote logs a write of the key with the token, once the store has answered, so that an
+// audit judges it. revision is the number that the store gave a write that it took, nil if
+// it gives none: of two writes of a key the one taken later has the greater one. Nothing is
+// written of an answer that the task does not log, or once the task has ended. The errors
+// of Token, and ErrWrongForm if the store cannot say so.
+func (l *Lease) Wrote(reply hourstable.StoreReply, revision *uint64) error {
+	token, err := l.Token()
+	if err != nil {
+		return err
+	}
+	return l.leases.wrote(l, hourstable.LoggedWrite{
+		SliceKey: l.sliceKey, Token: token, Reply: reply, Revision: revision,
+	})
 }
 
 // Serving runs answer if the task may serve a key, and returns its error. If the

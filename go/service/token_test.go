@@ -76,6 +76,67 @@ func TestATokenOfTwoLeases(t *testing.T) {
 	}
 }
 
+// A task logs its writes with the token of the answer, at tickets after that of the question.
+func TestWritesAreLogged(t *testing.T) {
+	job := newJob(t, 60_000)
+	folder, revision := t.TempDir(), uint64(9)
+	task := runs(t, TaskConfig{Control: []string{job.plane().URL}, Logs: folder})
+	eventually(t, "the task serves", func() bool { return task.serves("hello") })
+	var kept *Lease
+	must(t, task.Serving(context.Background(), "hello", func(_ context.Context, lease *Lease) error {
+		kept = lease
+		must(t, lease.Wrote(hourstable.WriteTaken, &revision))
+		if err := lease.Wrote(hourstable.WriteRefused, &revision); !errors.Is(err, hourstable.ErrWrongForm) {
+			t.Errorf("a write that was refused has a revision: %v", err)
+		}
+		return lease.Wrote(hourstable.WriteUnknown, nil)
+	}))
+	must(t, kept.Wrote(hourstable.WriteRefused, nil)) // late
+	ticket := func(line map[string]any) uint64 { return uint64(line["ticket"].(float64)) }
+	var entry, last uint64
+	var replies []any
+	for _, line := range linesOf(t, folder) {
+		switch {
+		case line["do"] == "hold":
+			entry = ticket(line)
+		case line["do"] == "write":
+			token, _ := kept.Token()
+			if line["token"] != token.String() || line["slice_key"] != float64(hourstable.SliceKey([]byte("hello"))) {
+				t.Errorf("it logs %v", line)
+			}
+			if ticket(line) <= last || ticket(line) <= entry {
+				t.Errorf("the ticket of %v is not above %d and %d", line, entry, last)
+			}
+			last, replies = ticket(line), append(replies, line["reply"], line["revision"])
+		}
+	}
+	if float64(kept.Ticket()) != float64(entry) || entry == 0 {
+		t.Errorf("the ticket of the answer is %d, and %d in the log", kept.Ticket(), entry)
+	}
+	if wanted := []any{"taken", 9.0, "unknown", nil, "refused", nil}; !reflect.DeepEqual(replies, wanted) {
+		t.Errorf("it logs %v, and not %v", replies, wanted)
+	}
+}
+
+// An audit knows no token of an answer that is not logged.
+func TestAWriteOfAnAnswerThatIsNotLogged(t *testing.T) {
+	job := newJob(t, 60_000)
+	folder := t.TempDir()
+	task := runs(t, TaskConfig{Control: []string{job.plane().URL}, Logs: folder, Sample: 1e-9})
+	eventually(t, "the task serves", func() bool { return task.serves("hello") })
+	must(t, task.Serving(context.Background(), "hello", func(_ context.Context, lease *Lease) error {
+		if lease.Ticket() != 0 {
+			t.Errorf("its ticket is %d", lease.Ticket())
+		}
+		return lease.Wrote(hourstable.WriteTaken, nil)
+	}))
+	for _, word := range wordsOf(t, folder) {
+		if word == "write" {
+			t.Error("it logs a write")
+		}
+	}
+}
+
 // No lease is asked for before the start of its life.
 func TestALifeIsLetInBeforeItAsksForALease(t *testing.T) {
 	job := newJob(t, 60_000)

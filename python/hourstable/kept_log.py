@@ -37,6 +37,7 @@ class KeptLog:
         self._spare = files.spare()
         self._missing, self._first, self._last = self._left()  # lines, and the tickets of the first and the last
         self._is_ready = False  # whether the disk takes lines again
+        self.stops = 0  # how often it stopped: a line of before has lines missing after it
         try:
             self._log = files.open()
             self._tell_gap()
@@ -117,6 +118,7 @@ class KeptLog:
 
     def _stop(self, why: Exception) -> None:
         self._told.error("%s: the log stops, and the service goes on: %s", self._name, why)
+        self.stops += 1
         self._tried = self._now()
         self._drop()
 

@@ -13,13 +13,15 @@ from typing import Any, NamedTuple, NoReturn, TypeVar
 
 from .kept_log import KeptLog
 from .library import KINDS as NUMBERS
-from .library import CALLS, Door, LoggedCall, Phase, Policy, Receipt, Refused, Slicelet, TaskClock, log_line
+from .library import (
+    CALLS, Door, LoggedCall, Phase, Policy, Receipt, Refused, Slicelet, TaskClock, log_line, log_write,
+)
 from .logs import NoLog
 from .ranges import Ranges, minus, ranges_of, union
 from .tickets import Tickets
 
 Made = TypeVar("Made")
-Entered = tuple[int, int, int, int]  # slice key and position of a handle, generation of its lease, greatest one
+Entered = tuple[int, int, int, int, int]  # slice key, position of a handle, generation of its lease, greatest, ticket
 KINDS = ("guard", "bridge")
 TOKEN = struct.Struct(">IQI")
 
@@ -89,7 +91,7 @@ class Leases:
         self.started = False
         self.held: dict[str, Held] = {}
         self.heard = {"number": 0, "generation": 0}  # the greatest that it heard
-        self._tickets, self._log = tickets, log
+        self._tickets, self._log, self._stops = tickets, log, log.stops
         self._receipt = Receipt()
         self._slicelet = Slicelet.resume(job, task, last)
         self._door = Door(self._slicelet, clock, task, life)
@@ -185,13 +187,21 @@ class Leases:
         if code:
             self._raise(code)
         entry = door.entry
-        return entry.slice_key, entry.position, entry.generation, entry.covering
+        return entry.slice_key, entry.position, entry.generation, entry.covering, ticket
 
     def token(self, entered: Entered) -> bytes:
         """Returns the fencing token that the task had at an entry. Raises NoToken if the epoch is not known."""
         if not self.epoch:
             raise NoToken("no-epoch")
         return TOKEN.pack(self.epoch, entered[3], self.life)
+
+    def wrote(self, entered: Entered, token: bytes, reply: str, revision: int | None) -> None:
+        """Logs a write with the token of an entry, and what the store said, if the log has the entry: an audit knows
+        no other token. It is no call of the slicelet, so it may come once the life has ended."""
+        ticket = self._tickets.draw() if entered[4] and self._log.stops == self._stops else 0
+        line = log_write(ticket, entered[0], token, reply, revision)
+        if ticket:
+            self._log.append(line)
 
     def check(self, entered: Entered, is_logged: bool = True) -> bool:
         """Whether the task has held the key of a handle without a break since it was taken, and may serve it now. The

@@ -49,6 +49,7 @@ CALLS = {word: number for number, word in enumerate((
     "take renew propose commit grant free lose phase restore open start hear release serve hold check"
     " learn look forget sample"
 ).split(), 1)}  # the calls of which a line of a log may be
+STORE_REPLIES = {"taken": 2, "refused": 3, "unknown": 4}  # 1 is taken, with a revision
 TASK_ACTIONS = ("start", "ask guard", "ask bridge", "give up guard", "give up bridge", "rest")
 
 CType = Any  # a type of ctypes, a parameter type, or an argument for one
@@ -306,6 +307,12 @@ class Token(ctypes.Structure):
         return cls.from_buffer_copy(token)
 
 
+class LoggedWrite(ctypes.Structure):
+    """A write to a store for log_write, as the header says."""
+
+    _fields_ = [*fields("ticket slice_key revision"), ("token", Token), ("reply", ctypes.c_uint32)]
+
+
 class LoadRecord(Numbers):
     _fields_ = fields("slice_key weight")
     slice_key: int
@@ -521,6 +528,7 @@ DECLARED: dict[str, list[CType]] = {
     "table_clock_read": [P(TableClock), U64, P(ctypes.c_uint64)],
     "clock_evidence": [*BYTES, *BYTES, U64, P(Policy), P(ctypes.c_uint32)],
     "log_line": [*BYTES, P(LoggedCall), *BYTES, *OUT],
+    "log_write": [P(LoggedWrite), *OUT],
     "plan": [
         *BYTES, *BYTES, ctypes.c_void_p, SIZE, ctypes.c_void_p, SIZE, P(PlanPolicy), *OUT,
     ],
@@ -687,6 +695,19 @@ def log_line(job: str, call: LoggedCall, message: bytes = b"") -> str:
     given = (*named(job), ctypes.byref(call), message, len(message))
     line = text_of(library.hs_log_line, *given, room=LINE + len(message))  # in which each line of a call finds room
     return line.decode().removesuffix("\n")
+
+
+def log_write(ticket: int, slice_key: int, token: bytes, reply: str, revision: int | None = None) -> str:
+    """Returns the line of a write to a store for `hourstable audit`, without its line feed. `ticket` is that of the
+    call with which the task got the token, or a later one; `reply` what the store said: "taken", "refused", or
+    "unknown" if no answer came; `revision` the number that the store gave a write that it took, if it gives any.
+    Raises ValueError if a value is none of these."""
+    if reply not in STORE_REPLIES or (revision is not None and reply != "taken"):
+        raise ValueError(f"a write that was {reply!r} with the revision {revision}")
+    number = STORE_REPLIES[reply] if revision is None else 1
+    numbers = (fitting(ctypes.c_uint64, it) for it in (ticket, slice_key, revision or 0))
+    write = LoggedWrite(*numbers, Token.of(token), number)
+    return text_of(library.hs_log_write, ctypes.byref(write), room=LINE).decode().removesuffix("\n")
 
 
 def plan(

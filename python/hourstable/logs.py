@@ -243,6 +243,7 @@ class NoLog:
     """In place of a log that is left out."""
 
     is_kept = is_stopped = False
+    stops = 0
 
     def append(self, *lines: str) -> None:
         """Does nothing."""

@@ -128,6 +128,19 @@ class Handle:
         with a lower one. Raises NoToken."""
         return self._task._token(self._leases, self._entered)
 
+    @property
+    def ticket(self) -> int | None:
+        """The ticket of the entry in the log, None if the task does not log the block."""
+        return self._entered[4] or None
+
+    def wrote(self, reply: str, revision: int | None = None) -> None:
+        """Logs a write of the key with this token, once the store has answered, so that an audit judges it. `reply`
+        is what the store said: "taken", "refused", or "unknown" if no answer came. `revision` is the number that the
+        store gave a write that it took, if it gives any: of two writes of a key the later one has the greater one.
+        Nothing is written of a block that the task does not log, or once the task has ended. Raises NoToken, and
+        ValueError if the store cannot say so."""
+        self._task._wrote(self._leases, self._entered, reply, revision)
+
     def _is_held(self) -> bool:
         """Whether the task has held the key since the entry. A handle is of a life: another one has not given it."""
         return self._task._leases is self._leases and self._leases.check(self._entered, self._is_logged)
@@ -463,6 +476,11 @@ class Task:
         if self._policy.high > 1:
             raise NoToken("many-owners")
         return leases.token(entered)
+
+    def _wrote(self, leases: Leases, entered: Entered, reply: str, revision: int | None) -> None:
+        token = self._token(leases, entered)
+        if not (self._over.is_set() or self._is_forked):
+            leases.wrote(entered, token, reply, revision)
 
     def reading(self) -> int:
         """Returns the reading of the task's clock. Raises ClockBehind."""

@@ -27,6 +27,17 @@ def test_sessions_on_the_shelf(tmp_path: Path) -> None:
     assert shelf.take("a", b"1") == NOTHING
 
 
+def test_revisions_of_the_shelf_rise(tmp_path: Path) -> None:
+    """Also after a line that a killed process left torn."""
+    shelf, session = Shelf(tmp_path), NOTHING.after("x", "one")
+    revisions = [shelf.put("key", b"1", session), shelf.put("key", b"1", session)]
+    with open(tmp_path / "key-key", "a", encoding="utf-8") as file:
+        file.write('["33", 2, "two", ["y"')
+    shelf.take("key", b"2")
+    revisions += [shelf.put("key", b"2", session), Shelf(tmp_path).put("key", b"2", session)]
+    assert revisions == sorted(set(revisions))
+
+
 def test_a_late_writer_is_refused(tmp_path: Path) -> None:
     one, two = Shelf(tmp_path), Shelf(tmp_path)
     one.put("key", b"1", NOTHING.after("x", "one"))

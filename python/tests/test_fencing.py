@@ -34,7 +34,7 @@ class Rows(Protocol):
 
     def take(self, key: str, token: bytes) -> bytes | None: ...
 
-    def put(self, key: str, token: bytes, value: bytes | None) -> None: ...
+    def put(self, key: str, token: bytes, value: bytes | None) -> int: ...
 
 
 Opens = Callable[[], Rows]
@@ -114,6 +114,17 @@ def test_a_delete_keeps_its_fence(opens: Opens) -> None:
     assert rows.take("gone", token(6)) is None
     rows.put("gone", token(6), b"")
     assert rows.take("gone", token(6)) == b""
+
+
+def test_revisions_rise(opens: Opens) -> None:
+    """Of two writes of a key, also by other processes and after a delete, the later one has the greater revision. One
+    that is refused takes none."""
+    first, second = opens(), opens()
+    assert first.take("counted", token(1)) is None
+    revisions = [first.put("counted", token(1), b"one"), second.put("counted", token(2), b"two")]
+    assert not is_put(first, "counted", token(1), b"late")
+    revisions += [second.put("counted", token(2), None), first.put("counted", token(3), b"three")]
+    assert revisions == sorted(set(revisions)) and revisions[0] >= 0 and revisions[-1] < 1 << 64
 
 
 def test_tokens_are_compared_as_the_library_does(opens: Opens) -> None:

@@ -13,6 +13,8 @@ import needed
 needed.library()
 
 from hourstable import logs  # noqa: E402
+from hourstable.auditing import LAST, Audit  # noqa: E402
+from hourstable.kept_log import KeptLog  # noqa: E402
 from hourstable.leases import TOKEN, held_in, policy_of  # noqa: E402
 from hourstable.library import Fence, Refused, Slicelet, Table, slice_key  # noqa: E402
 from hourstable.store import Store  # noqa: E402
@@ -194,6 +196,117 @@ async def test_a_job_of_two_owners_gives_no_token(plane: Plane, tmp_path: Path) 
         await until(lambda: task.served() == LOWER)
         with pytest.raises(NoToken, match="many-owners"):
             task.ask("hello").token
+
+
+# Writes in the log. --------------------------------------------------------------------------------
+
+
+def writes(folder: Path) -> list[dict[str, Any]]:
+    """Returns the lines of writes, by their tickets."""
+    return [it for it in logs.merged(folder / JOB) if it["do"] == "write"]
+
+
+async def test_a_write_is_logged_with_the_token_of_its_block(plane: Plane, tmp_path: Path) -> None:
+    async with task_of(plane, tmp_path) as task:
+        await until(lambda: task.served() == LOWER)
+        async with task.serving("hello") as lease:
+            lease.wrote("taken", 1 << 63)
+            lease.wrote("unknown")
+        hold = task.hold("hello")
+        hold.wrote("refused")
+    entries = [it["ticket"] for it in logs.merged(tmp_path / JOB) if it["do"] == "hold"]
+    assert [lease.ticket, hold.ticket] == entries
+    told = {"do": "write", "slice_key": slice_key(b"hello"), "token": TOKEN.pack(EPOCH, 1, 1).hex()}
+    found = writes(tmp_path)
+    assert [{name: it[name] for name in told} for it in found] == [told] * 3
+    said = [(it["reply"], it.get("revision")) for it in found]
+    assert said == [("taken", 1 << 63), ("unknown", None), ("refused", None)]
+    assert entries[0] < found[0]["ticket"] < found[1]["ticket"] < entries[1] < found[2]["ticket"]
+
+
+async def test_a_store_that_gives_no_revisions(plane: Plane, tmp_path: Path) -> None:
+    async with task_of(plane, tmp_path) as task:
+        await until(lambda: task.served() == LOWER)
+        task.ask("hello").wrote("taken")
+    assert [(it["reply"], "revision" in it) for it in writes(tmp_path)] == [("taken", False)]
+
+
+@pytest.mark.parametrize("given", [("late",), ("refused", 1), ("unknown", 1), ("taken", -1), ("taken", 1 << 64)])
+async def test_what_no_store_says_of_a_write(plane: Plane, tmp_path: Path, given: tuple[Any, ...]) -> None:
+    async with task_of(plane, tmp_path) as task:
+        await until(lambda: task.served() == LOWER)
+        with pytest.raises(ValueError, match="write that was|no whole number"):
+            task.ask("hello").wrote(*given)
+    assert writes(tmp_path) == []
+
+
+async def test_a_write_of_a_block_that_is_not_logged(plane: Plane, tmp_path: Path) -> None:
+    """An audit knows no token of it."""
+    async with task_of(plane, tmp_path, sample=0) as task:
+        await until(lambda: task.served() == LOWER)
+        lease = task.ask("hello")
+        lease.wrote("taken", 1)
+        assert lease.ticket is None
+    assert writes(tmp_path) == []
+
+
+async def test_a_task_without_a_log_logs_no_write(plane: Plane, tmp_path: Path) -> None:
+    async with Task(plane.url, JOB, 1, logs=None, state=tmp_path, policy=plane.policy, timeout=2.0) as task:
+        await until(lambda: task.served() == LOWER)
+        lease = task.ask("hello")
+        lease.wrote("taken", 1)
+        assert lease.ticket is None
+
+
+async def test_a_late_write_is_logged_once_its_life_has_ended(plane: Plane, tmp_path: Path) -> None:
+    """And not once the task has ended, whose log is closed."""
+    async with task_of(plane, tmp_path) as task:
+        await until(lambda: task.served() == LOWER)
+        lease = task.ask("hello")
+        task._drop_life()
+        lease.wrote("refused")
+    lease.wrote("taken", 1)
+    assert [it["reply"] for it in writes(tmp_path)] == ["refused"]
+
+
+async def test_a_write_whose_entry_the_log_may_lack(plane: Plane, tmp_path: Path) -> None:
+    """A full disk took no lines meanwhile, so the log goes on without it."""
+    async with task_of(plane, tmp_path) as task:
+        await until(lambda: task.served() == LOWER)
+        lease = task.ask("hello")
+        assert isinstance(task._log, KeptLog)
+        log: KeptLog = task._log
+        log._stop(OSError("no room"))
+        await until(lambda: not log.is_stopped and task.served() == LOWER)
+        lease.wrote("taken", 1)
+        task.ask("hello").wrote("taken", 2)
+    assert [it["revision"] for it in writes(tmp_path)] == [2]
+
+
+async def test_a_job_without_tokens_logs_no_write(plane: Plane, tmp_path: Path) -> None:
+    plane.policy["redundancy"] = [1, 2]
+    async with task_of(plane, tmp_path) as task:
+        await until(lambda: task.served() == LOWER)
+        with pytest.raises(NoToken, match="many-owners"):
+            task.ask("hello").wrote("taken", 1)
+
+
+async def test_the_audit_knows_the_tokens_of_a_task(file: Store, tmp_path: Path) -> None:
+    """It judges the writes that a real task logs, and names one that comes too late."""
+    program, folder = needed.program(), tmp_path / "logs"
+    async with running(file, folder) as (_, caller):
+        assert (await caller.create()).status == 201
+        await caller.change(await caller.take(), 1, [[0, [1]]])
+        leases = []
+        for revision in (1, 3, 2):
+            async with Task(caller.url, "shop", 1, logs=folder) as task:
+                await until(lambda: bool(task.served()))
+                leases.append(task.ask("hello"))
+                leases[-1].wrote("taken", revision)
+    told = Audit(folder / "shop", str(program)).judged([], 0, LAST)
+    late, last = ("task-1.", "whose token is greater\n")
+    assert told.status == 1 and told.is_one
+    assert told.said.splitlines()[-1].startswith(f"fenced no: {late}") and told.said.endswith(last)
 
 
 # Leases that are given up. --------------------------------------------------------------------------

@@ -27,7 +27,7 @@ from hourstable.demo.shelf import Late, Locked, Session, Shelf
 from hourstable.library import slice_key
 from hourstable.ranges import Ranges, holds
 from hourstable.state import tickets_in
-from hourstable.task import ClockBroken, Denied, Drift, Hold, LeaseLost, Overtaken, Task
+from hourstable.task import ClockBroken, Denied, Drift, Hold, Lease, LeaseLost, Overtaken, Task
 from hourstable.tickets import Tickets, real_milliseconds
 
 
@@ -66,14 +66,16 @@ class Cache:
         self.memory[key] = hold, self.shelf.take(key, hold.token)
         return self.memory[key]
 
-    def keep(self, key: str, token: bytes, session: Session) -> None:
-        """Puts a session on the shelf. Raises Late, and forgets what memory has, if another task
+    def keep(self, lease: Lease, session: Session) -> None:
+        """Puts a session on the shelf, and logs the write. Raises Late, and forgets what memory has, if another task
         took the key meanwhile."""
         try:
-            self.shelf.put(key, token, session)
+            revision = self.shelf.put(lease.key, lease.token, session)
         except Late:
-            self.memory.pop(key, None)
+            lease.wrote("refused")
+            self.memory.pop(lease.key, None)
             raise
+        lease.wrote("taken", revision)
 
     def forget(self, lost: Ranges) -> None:
         """Forgets the sessions of keys that are lost, so that memory does not fill with them."""
@@ -93,7 +95,7 @@ class Cache:
                     lease.check()
                     try:
                         if asked["keep"]:
-                            self.keep(key, lease.token, session)
+                            self.keep(lease, session)
                         self.memory[key] = hold, session
                     except Late as why:
                         late = why

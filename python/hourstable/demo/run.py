@@ -144,10 +144,12 @@ def conclude(program: Path, made: Path) -> int:
         raise Ended(f"the audit cannot be run: {why}") from why
     print(found, end="")
     is_one = status == 0 and found.startswith("audit one\n")
-    is_timely = found.rstrip().endswith("\ntimely yes")
-    if is_one and is_timely:
+    is_timely = "\ntimely yes\n" in found
+    is_fenced = found.endswith("\nfenced yes\n")
+    if is_one and is_timely and is_fenced:
         print("\naudit one: together these calls are one run of the proved rules. timely yes: no clock")
-        print("was so far behind that a lease could have been used after its end.")
+        print("was so far behind that a lease could have been used after its end. fenced yes: the shelf took no")
+        print("write of an earlier owner after one of a later owner.")
     verdict = judge.judge(made)
     faults = verdict.faults or ([] if verdict.writes and verdict.reads else ["nothing was done"])
     print("\nA second check knows nothing of Hourstable, and looks at what the tasks and clients did:")
@@ -155,4 +157,4 @@ def conclude(program: Path, made: Path) -> int:
     print("WRONG" if faults else "no two tasks worked for a key at once, no write was lost")
     for fault in faults[:20]:
         print(f"  {fault}")
-    return 0 if is_one and is_timely and not faults else 1
+    return 0 if is_one and is_timely and is_fenced and not faults else 1

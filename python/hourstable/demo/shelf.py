@@ -60,13 +60,15 @@ class Shelf:
                 raise Late(key)
             return session
 
-    def put(self, key: str, token: bytes, session: Session) -> None:
-        """Puts a session on the shelf. Raises Late and Locked."""
+    def put(self, key: str, token: bytes, session: Session) -> int:
+        """Puts a session on the shelf, and returns the revision of the write: where its line begins, which rises.
+        Raises Late and Locked."""
         with self._locked(key) as file:
             fence, _, end = self._last(file)
             if token < fence:
                 raise Late(key)
             self._append(key, file, end, token, session)
+            return end
 
     @contextmanager
     def _locked(self, key: str) -> Iterator[int]:
