@@ -24,31 +24,35 @@ class Rows:
     def take(self, key: str, token: bytes) -> bytes | None:
         """Raises the fence of a key, and returns its value then, in one transaction: what a new owner does first.
         Raises Late."""
-        found = self._fenced(key, token, {"requestRange": {"key": self._value(key)}})
+        found, _ = self._fenced(key, token, {"requestRange": {"key": self._value(key)}})
         rows = found[-1]["response_range"].get("kvs", [])
         return base64.b64decode(rows[0].get("value", "")) if rows else None
 
-    def put(self, key: str, token: bytes, value: bytes | None) -> None:
-        """Writes a value; None deletes it, and keeps the fence. Raises Late."""
+    def put(self, key: str, token: bytes, value: bytes | None) -> int:
+        """Writes a value, and returns its revision; None deletes the value, and keeps the fence. Raises Late."""
         if value is None:
-            self._fenced(key, token, {"requestDeleteRange": {"key": self._value(key)}})
+            request: Members = {"requestDeleteRange": {"key": self._value(key)}}
         else:
-            self._fenced(key, token, {"requestPut": {"key": self._value(key), "value": _text(value)}})
+            request = {"requestPut": {"key": self._value(key), "value": _text(value)}}
+        _, revision = self._fenced(key, token, request)
+        return revision
 
-    def _fenced(self, key: str, token: bytes, request: Members) -> list[Members]:
-        """Raises the fence and does a request, or neither. Raises Late."""
+    def _fenced(self, key: str, token: bytes, request: Members) -> tuple[list[Members], int]:
+        """Raises the fence and does a request, or neither. Returns the responses, and the revision of the
+        transaction. Raises Late."""
         fence = _text(f"{self._prefix}fence/{key}".encode())
         done = [{"requestPut": {"key": fence, "value": _text(token)}}, request]
         is_new = {"key": fence, "target": "CREATE", "result": "EQUAL", "createRevision": "0"}
         is_up_to = {"key": fence, "target": "VALUE", "result": "LESS", "value": _text(token + b"\0")}
         inner = {"compare": [is_up_to], "success": done}
         told = self._post({"compare": [is_new], "success": done, "failure": [{"requestTxn": inner}]})
+        revision = int(told["header"]["revision"])
         if not told.get("succeeded"):
             told = told["responses"][0]["response_txn"]
             if not told.get("succeeded"):
                 raise Late(key)
         responses: list[Members] = told["responses"]
-        return responses
+        return responses, revision
 
     def _value(self, key: str) -> str:
         return _text(f"{self._prefix}value/{key}".encode())

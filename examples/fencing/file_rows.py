@@ -26,23 +26,25 @@ class Rows:
     def take(self, key: str, token: bytes) -> bytes | None:
         """Raises the fence of a key, and returns its value then, under one lock: what a new owner does first. Raises
         Late, and TimeoutError if the file stays locked."""
-        return self._change(key, token, lambda value: value)
+        return self._change(key, token, lambda value: value)[0]
 
-    def put(self, key: str, token: bytes, value: bytes | None) -> None:
-        """Writes a value; None deletes it, and keeps the fence. Raises Late, and TimeoutError if the file stays
-        locked."""
-        self._change(key, token, lambda _: value)
+    def put(self, key: str, token: bytes, value: bytes | None) -> int:
+        """Writes a value, and returns the revision of the write; None deletes it, and keeps the fence. Raises Late,
+        and TimeoutError if the file stays locked."""
+        return self._change(key, token, lambda _: value)[1]
 
-    def _change(self, key: str, token: bytes, change: Callable[[bytes | None], bytes | None]) -> bytes | None:
-        """Changes the value of a key, unless the token is below its fence, and returns the new one."""
+    def _change(
+        self, key: str, token: bytes, change: Callable[[bytes | None], bytes | None]
+    ) -> tuple[bytes | None, int]:
+        """Changes the value of a key, unless the token is below its fence, and returns it with its revision."""
         path = self._folder / urllib.parse.quote(key, safe="")
         with self._locked(path.with_name(path.name + ".lock")):
-            fence, value = self._read(path)
+            fence, value, revision = self._read(path)
             if token < fence:
                 raise Late(key)
             value = change(value)
-            self._write(path, token, value)
-            return value
+            self._write(path, token, value, revision + 1)
+            return value, revision + 1
 
     @contextmanager
     def _locked(self, path: Path) -> Iterator[None]:
@@ -61,19 +63,19 @@ class Rows:
         finally:
             os.close(file)
 
-    def _read(self, path: Path) -> tuple[bytes, bytes | None]:
-        """Returns the fence and the value of a row."""
+    def _read(self, path: Path) -> tuple[bytes, bytes | None, int]:
+        """Returns the fence, the value and the revision of a row."""
         try:
-            fence, value = json.loads(path.read_bytes())
+            fence, value, revision = json.loads(path.read_bytes())
         except FileNotFoundError:
-            return b"", None
-        return bytes.fromhex(fence), None if value is None else bytes.fromhex(value)
+            return b"", None, 0
+        return bytes.fromhex(fence), None if value is None else bytes.fromhex(value), revision
 
-    def _write(self, path: Path, fence: bytes, value: bytes | None) -> None:
+    def _write(self, path: Path, fence: bytes, value: bytes | None, revision: int) -> None:
         """Writes a row whole or not at all, and on the disk."""
         made = path.with_name(path.name + ".new")
         with open(made, "wb") as file:
-            file.write(json.dumps([fence.hex(), None if value is None else value.hex()]).encode())
+            file.write(json.dumps([fence.hex(), None if value is None else value.hex(), revision]).encode())
             file.flush()
             os.fsync(file.fileno())
         os.replace(made, path)

@@ -18,13 +18,15 @@ return redis.call('HGET', KEYS[1], 'value')
 PUT = """
 local fence = redis.call('HGET', KEYS[1], 'fence')
 if fence and fence > ARGV[1] then return redis.error_reply('LATE') end
-return redis.call('HSET', KEYS[1], 'fence', ARGV[1], 'value', ARGV[2])
+redis.call('HSET', KEYS[1], 'fence', ARGV[1], 'value', ARGV[2])
+return redis.call('HINCRBY', KEYS[1], 'revision', 1)
 """
 DELETE = """
 local fence = redis.call('HGET', KEYS[1], 'fence')
 if fence and fence > ARGV[1] then return redis.error_reply('LATE') end
 redis.call('HSET', KEYS[1], 'fence', ARGV[1])
-return redis.call('HDEL', KEYS[1], 'value')
+redis.call('HDEL', KEYS[1], 'value')
+return redis.call('HINCRBY', KEYS[1], 'revision', 1)
 """
 
 
@@ -48,12 +50,14 @@ class Rows:
         assert value is None or isinstance(value, bytes)
         return value
 
-    def put(self, key: str, token: bytes, value: bytes | None) -> None:
-        """Writes a value; None deletes it, and keeps the fence. Raises Late."""
+    def put(self, key: str, token: bytes, value: bytes | None) -> int:
+        """Writes a value, and returns its revision; None deletes the value, and keeps the fence. Raises Late."""
         if value is None:
-            self._run(DELETE, key, token.hex())
+            revision = self._run(DELETE, key, token.hex())
         else:
-            self._run(PUT, key, token.hex(), value)
+            revision = self._run(PUT, key, token.hex(), value)
+        assert isinstance(revision, int)
+        return revision
 
     def _run(self, script: str, key: str, *given: str | bytes) -> bytes | int | None:
         try:

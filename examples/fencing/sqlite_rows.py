@@ -8,7 +8,11 @@ from pathlib import Path
 
 from late import Late
 
-TABLE = "CREATE TABLE IF NOT EXISTS rows (key TEXT PRIMARY KEY, value BLOB, fence BLOB NOT NULL) WITHOUT ROWID"
+TABLE = """
+CREATE TABLE IF NOT EXISTS rows (
+    key TEXT PRIMARY KEY, value BLOB, fence BLOB NOT NULL, revision INTEGER NOT NULL DEFAULT 0
+) WITHOUT ROWID
+"""
 TAKE = """
 INSERT INTO rows (key, fence) VALUES (?, ?)
 ON CONFLICT (key) DO UPDATE SET fence = excluded.fence WHERE fence <= excluded.fence
@@ -16,8 +20,9 @@ RETURNING value
 """
 PUT = """
 INSERT INTO rows (key, value, fence) VALUES (?, ?, ?)
-ON CONFLICT (key) DO UPDATE SET value = excluded.value, fence = excluded.fence WHERE fence <= excluded.fence
-RETURNING 1
+ON CONFLICT (key) DO UPDATE
+SET value = excluded.value, fence = excluded.fence, revision = rows.revision + 1 WHERE fence <= excluded.fence
+RETURNING revision
 """
 
 
@@ -38,10 +43,13 @@ class Rows:
         value: bytes | None = found[0][0]
         return value
 
-    def put(self, key: str, token: bytes, value: bytes | None) -> None:
-        """Writes a value; None deletes it, and keeps the fence. Raises Late."""
-        if not self._file.execute(PUT, (key, value, token)).fetchall():
+    def put(self, key: str, token: bytes, value: bytes | None) -> int:
+        """Writes a value, and returns its revision; None deletes the value, and keeps the fence. Raises Late."""
+        found = self._file.execute(PUT, (key, value, token)).fetchall()
+        if not found:
             raise Late(key)
+        revision: int = found[0][0]
+        return revision
 
     def close(self) -> None:
         self._file.close()

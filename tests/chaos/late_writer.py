@@ -34,7 +34,7 @@ TRUSTING = {  # the comparison is taken out
 class Rows(Protocol):
     def take(self, key: str, token: bytes) -> bytes | None: ...
 
-    def put(self, key: str, token: bytes, value: bytes | None) -> None: ...
+    def put(self, key: str, token: bytes, value: bytes | None) -> int: ...
 
 
 def rows_of(url: str, is_trusting: bool) -> Rows:
@@ -81,11 +81,13 @@ class Writer:
             if stops:
                 self.note(write, key, token, count, "stopped")
                 os.kill(os.getpid(), signal.SIGSTOP)  # between the check and the write
-            self.rows.put(key, token, json.dumps([count, write]).encode())
+            revision = self.rows.put(key, token, json.dumps([count, write]).encode())
         except Late:
+            lease.wrote("refused")
             self.memory.pop(key, None)
             self.note("", key, token, 0, "late" if is_lost(lease) else "refused")
             raise
+        lease.wrote("taken", revision)
         self.memory[key] = hold, count
         self.note(write, key, token, count, "taken")
 
