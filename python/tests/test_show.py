@@ -120,9 +120,16 @@ def test_a_command_line_reports_what_is_stored(folder: Path, tmp_path: Path, nam
 
 
 def of_files() -> list[str]:
-    """Returns the stored audits that judge files."""
+    """Returns the stored audits that judge files without writes to stores, which no trace tells yet."""
     found = [it for it in stored("audit") if as_written(it)[2] < 2]
-    return [it for it in found if "-" not in (COMMANDS / f"{it}.words").read_text().splitlines()]
+    words = {it: (COMMANDS / f"{it}.words").read_text().splitlines()[1:] for it in found}
+    return [it for it in found if "-" not in words[it] and not any(map(has_writes, words[it]))]
+
+
+def has_writes(word: str) -> bool:
+    """Says whether a word names a log with a write."""
+    path = COMMANDS / word
+    return path.is_file() and any('"do":"write"' in line for line in path.read_text(errors="replace").splitlines())
 
 
 @pytest.mark.parametrize("name", of_files())
