@@ -16,7 +16,8 @@ use Rattle.reasons.specs.declared.reason.Break.TheVariants.{OtherLife, Denied, T
 use Rattle.reasons.specs.declared.reason.Reason.{Reason}
 use Rattle.reasons.specs.declared.reason.Reason.TheVariants as why
 use Rattle.reason_values.specs.declared.place.LogLine.{LogLine}
-use Rattle.reason_values.specs.Members.{if_there, quoted_data}
+use Rattle.reply_values.specs.Values.{large_data}
+use Rattle.reason_values.specs.Members.{if_there}
 use Rattle.reason_values.specs.Places.{place_data}
 use Rattle.reason_values.specs.Requests.{owners_data, request_data, rule_data}
 
@@ -52,7 +53,7 @@ break_data lines first (Taken call last) = object_data ((codes "taken", taken_da
 
 -- the last accepted reading of a clock
 abbrev pub last_data : ℕ → Data
-last_data last = object_data ((codes "last", quoted_data last) ∷ [])
+last_data last = object_data ((codes "last", large_data last) ∷ [])
 
 -- the row that holds a commit up
 abbrev pub held_data : Row → Data
@@ -69,7 +70,7 @@ life_data life = object_data ((codes "life", number_data life) ∷ [])
 -- the greatest number of a kind of grant that the task heard in its life
 abbrev pub heard_data : Kind → ℕ → ℕ → Data
 heard_data kind number life = object_data
-    ((codes "heard", object_data ((codes "kind", kind_data kind) ∷ (codes "number", quoted_data number) ∷ [])) ∷ (codes "life", number_data life) ∷ [])
+    ((codes "heard", object_data ((codes "kind", kind_data kind) ∷ (codes "number", large_data number) ∷ [])) ∷ (codes "life", number_data life) ∷ [])
 
 -- a reason, where a broken handle also has the first call that takes its key; none if the table gave no term: the reply says that
 abbrev pub reason_data : List LogLine → Option ℕ → Reason → Option Data

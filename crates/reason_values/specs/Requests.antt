@@ -8,15 +8,16 @@ use Rattle.reasons.specs.declared.reason.RuleValues.{RuleValues}
 use Rattle.reasons.specs.declared.reason.KeyOwners.{KeyOwners}
 use Rattle.reasons.specs.declared.reason.RequestReason.{RequestReason}
 use Rattle.reason_values.specs.declared.place.LogLine.{LogLine}
-use Rattle.reason_values.specs.Members.{if_there, quoted_data}
+use Rattle.reply_values.specs.Values.{large_data}
+use Rattle.reason_values.specs.Members.{if_there}
 use Rattle.reason_values.specs.Places.{place_data}
 
 -- a lease, with the place of the call in which it was heard, if that call has one
 abbrev pub lease_data : List LogLine → LeaseValues → Data
 lease_data lines lease = object_data
-    ((codes "covers", boolean lease.covers) ∷ (codes "ends", quoted_data lease.ends) ∷ (codes "generation", quoted_data lease.generation)
+    ((codes "covers", boolean lease.covers) ∷ (codes "ends", large_data lease.ends) ∷ (codes "generation", large_data lease.generation)
     ∷ if_there (codes "heard") (option_map (place_data lines) lease.heard)
-    ++ (codes "kind", kind_data lease.kind) ∷ (codes "number", quoted_data lease.number) ∷ [])
+    ++ (codes "kind", kind_data lease.kind) ∷ (codes "number", large_data lease.number) ∷ [])
 
 -- the leases that a task holds, the guard lease first
 abbrev pub leases_of : Option LeaseValues → Option LeaseValues → List LeaseValues
@@ -28,13 +29,13 @@ leases_of (Some guard) (Some bridge) = guard ∷ bridge ∷ []
 -- what the written rule decides by, with the number of the lease by which it answers, if one does
 abbrev pub rule_data : List LogLine → RuleValues → Data
 rule_data lines rule = object_data
-    ((codes "last", quoted_data rule.last) ∷ (codes "leases", list_data (lease_data lines) (leases_of rule.guard rule.bridge))
-    ∷ if_there (codes "number") (option_map quoted_data rule.number) ++ (codes "started", boolean rule.started) ∷ [])
+    ((codes "last", large_data rule.last) ∷ (codes "leases", list_data (lease_data lines) (leases_of rule.guard rule.bridge))
+    ∷ if_there (codes "number") (option_map large_data rule.number) ++ (codes "started", boolean rule.started) ∷ [])
 
 -- the committed generation, and the owners of the key in it
 abbrev pub owners_data : KeyOwners → Data
 owners_data owners = object_data
-    ((codes "generation", quoted_data owners.generation) ∷ (codes "tasks", list_data number_data owners.tasks.items) ∷ [])
+    ((codes "generation", large_data owners.generation) ∷ (codes "tasks", list_data number_data owners.tasks.items) ∷ [])
 
 abbrev pub request_data : List LogLine → RequestReason → Data
 request_data lines reason = object_data

@@ -6,22 +6,22 @@ use Rattle.wire.specs.Objects.{number_data, object_data}
 use Rattle.stretches.specs.declared.breaks.GivenHandle.{GivenHandle}
 use Rattle.stretches.specs.declared.stretch.ServingLease.{ServingLease}
 use Rattle.stretches.specs.declared.stretch.Stretch.{Stretch}
-use Rattle.reason_values.specs.Members.{quoted_data}
+use Rattle.reply_values.specs.Values.{large_data}
 
 abbrev pub serving_data : ServingLease → Data
 serving_data lease = object_data
-    ((codes "generation", quoted_data lease.generation) ∷ (codes "kind", kind_data lease.kind) ∷ (codes "number", quoted_data lease.number) ∷ [])
+    ((codes "generation", large_data lease.generation) ∷ (codes "kind", kind_data lease.kind) ∷ (codes "number", large_data lease.number) ∷ [])
 
 -- a stretch of a task
 abbrev pub stretch_data : ℕ → Stretch → Data
 stretch_data task stretch = object_data ((
   codes "stretch",
   object_data
-      ((codes "from", quoted_data stretch.from) ∷ (codes "lease", serving_data stretch.lease) ∷ (codes "process", number_data stretch.process)
-      ∷ (codes "task", number_data task) ∷ (codes "to", quoted_data stretch.to) ∷ []),
+      ((codes "from", large_data stretch.from) ∷ (codes "lease", serving_data stretch.lease) ∷ (codes "process", number_data stretch.process)
+      ∷ (codes "task", number_data task) ∷ (codes "to", large_data stretch.to) ∷ []),
 ) ∷ [])
 
 -- when a handle breaks, by the number in the reply that gave it
 abbrev pub broken_data : GivenHandle → Data
 broken_data given = object_data
-    ((codes "broken", object_data ((codes "breaks", quoted_data given.breaks) ∷ (codes "handle", number_data given.number) ∷ [])) ∷ [])
+    ((codes "broken", object_data ((codes "breaks", large_data given.breaks) ∷ (codes "handle", number_data given.number) ∷ [])) ∷ [])

@@ -9,7 +9,6 @@
 
 mod breaks;
 mod line;
-mod members;
 mod place;
 mod reason;
 mod request;
@@ -17,7 +16,6 @@ mod stretch;
 mod unsent;
 
 pub use line::line_of;
-pub use members::{put_if, quoted};
 pub use place::{LogLine, place_json, put_place};
 pub use reason::reason_json;
 pub use stretch::{broken_line, stretch_line};

@@ -7,12 +7,12 @@ ghost use Rattle.wire.specs.Kept.{job_term_data};
 ghost use Rattle.reason_values.specs.Reasons.{heard_data, held_data, last_data, life_data, reason_data, term_data};
 
 use crate::breaks::break_json;
-use crate::members::quoted;
 use crate::place::LogLine;
 use crate::request::request_json;
 use grants::{JobTerm, Row};
 use lease_rule::Kind;
 use reasons::Reason;
+use reply_values::large_json;
 use serde_json::{Value, json};
 use std::alloc::{AllocError, Global};
 use wire::{Wire, kind_word};
@@ -20,7 +20,7 @@ use wire::{Wire, kind_word};
 fn last_json(alloc: Global, last: u64) -> Result<Value, AllocError>
     ensures { IfOk result (λ v. view v ≡ last_data last) }
 {
-    json!(in alloc; {"last": quoted(alloc, last)?})
+    json!(in alloc; {"last": large_json(alloc, last)?})
 }
 
 fn held_json(alloc: Global, row: &Row) -> Result<Value, AllocError>
@@ -33,9 +33,9 @@ fn held_json(alloc: Global, row: &Row) -> Result<Value, AllocError>
 fn job_term_json(alloc: Global, term: JobTerm) -> Result<Value, AllocError>
     ensures { IfOk result (λ v. view v ≡ job_term_data numeral.Quoted term) }
 {
-    let assigner = quoted(alloc, term.assigner)?;
-    let number = quoted(alloc, term.number)?;
-    let until = quoted(alloc, term.until)?;
+    let assigner = large_json(alloc, term.assigner)?;
+    let number = large_json(alloc, term.number)?;
+    let until = large_json(alloc, term.until)?;
     json!(in alloc; {"assigner": assigner, "number": number, "until": until})
 }
 
@@ -49,7 +49,7 @@ fn term_json(alloc: Global, term: JobTerm) -> Result<Value, AllocError>
 fn heard_json(alloc: Global, kind: Kind, number: u64, life: u32) -> Result<Value, AllocError>
     ensures { IfOk result (λ v. view v ≡ heard_data kind number life) }
 {
-    let number = quoted(alloc, number)?;
+    let number = large_json(alloc, number)?;
     json!(in alloc; {"heard": {"kind": kind_word(kind), "number": number}, "life": life})
 }
 

@@ -2,13 +2,12 @@
 
 ghost use Rattle.std.specs.Prelude.{◌≡◌, IfOk};
 ghost use Rattle.serde_json.specs.View.{view};
-ghost use Rattle.wire.specs.Objects.{list_data, number_data};
+ghost use Rattle.wire.specs.Objects.{list_data};
 ghost use Rattle.reason_values.specs.Requests.{lease_data, leases_of, owners_data, request_data, rule_data};
 
-use crate::members::quoted;
 use crate::place::{LogLine, place_json};
-use assignment::TaskId;
 use reasons::{KeyOwners, LeaseValues, RequestReason, RuleValues};
+use reply_values::{large_json, tasks_json};
 use serde_json::{Value, json};
 use std::alloc::{AllocError, Global};
 use wire::kind_word;
@@ -16,9 +15,9 @@ use wire::kind_word;
 fn lease_json(alloc: Global, lines: &[LogLine], lease: &LeaseValues) -> Result<Value, AllocError>
     ensures { IfOk result (λ v. view v ≡ lease_data lines.now lease.now) }
 {
-    let ends = quoted(alloc, lease.ends)?;
-    let generation = quoted(alloc, lease.generation)?;
-    let number = quoted(alloc, lease.number)?;
+    let ends = large_json(alloc, lease.ends)?;
+    let generation = large_json(alloc, lease.generation)?;
+    let number = large_json(alloc, lease.number)?;
     let kind = kind_word(lease.kind);
     let covers = lease.covers;
     match lease.heard {
@@ -66,14 +65,14 @@ pub(crate) fn rule_json(
 ) -> Result<Value, AllocError>
     ensures { IfOk result (λ v. view v ≡ rule_data lines.now rule.now) }
 {
-    let last = quoted(alloc, rule.last)?;
+    let last = large_json(alloc, rule.last)?;
     let leases = leases_json(alloc, lines, rule)?;
     let started = rule.started;
     match rule.number {
         Some(number) => json!(in alloc; {
             "last": last,
             "leases": leases,
-            "number": quoted(alloc, number)?,
+            "number": large_json(alloc, number)?,
             "started": started
         }),
         None => json!(in alloc; {
@@ -84,21 +83,11 @@ pub(crate) fn rule_json(
     }
 }
 
-fn tasks_json(alloc: Global, tasks: &[TaskId]) -> Result<Value, AllocError>
-    ensures { IfOk result (λ v. view v ≡ list_data number_data tasks.now) }
-{
-    let mut list = Vec::new(alloc);
-    for task in tasks {
-        list.push(Value::from(task.number()))?;
-    }
-    Ok(Value::Array(list))
-}
-
 /// Writes who owns the key in the committed assignment.
 pub(crate) fn owners_json(alloc: Global, owners: &KeyOwners) -> Result<Value, AllocError>
     ensures { IfOk result (λ v. view v ≡ owners_data owners.now) }
 {
-    let generation = quoted(alloc, owners.generation)?;
+    let generation = large_json(alloc, owners.generation)?;
     let tasks = tasks_json(alloc, owners.tasks.as_slice())?;
     json!(in alloc; {"generation": generation, "tasks": tasks})
 }

@@ -6,7 +6,7 @@ ghost use Rattle.reason_values.specs.Lines.{line_text};
 ghost use Rattle.reason_values.specs.Stretches.{broken_data, serving_data, stretch_data};
 
 use crate::line::line_of;
-use crate::members::quoted;
+use reply_values::large_json;
 use serde_json::{Value, json};
 use std::alloc::{AllocError, Global};
 use stretches::{GivenHandle, ServingLease, Stretch};
@@ -15,16 +15,16 @@ use wire::kind_word;
 fn serving_json(alloc: Global, lease: &ServingLease) -> Result<Value, AllocError>
     ensures { IfOk result (λ v. view v ≡ serving_data lease.now) }
 {
-    let generation = quoted(alloc, lease.generation)?;
-    let number = quoted(alloc, lease.number)?;
+    let generation = large_json(alloc, lease.generation)?;
+    let number = large_json(alloc, lease.number)?;
     json!(in alloc; {"generation": generation, "kind": kind_word(lease.kind), "number": number})
 }
 
 fn stretch_json(alloc: Global, task: u64, stretch: &Stretch) -> Result<Value, AllocError>
     ensures { IfOk result (λ v. view v ≡ stretch_data task stretch.now) }
 {
-    let from = quoted(alloc, stretch.from)?;
-    let to = quoted(alloc, stretch.to)?;
+    let from = large_json(alloc, stretch.from)?;
+    let to = large_json(alloc, stretch.to)?;
     let lease = serving_json(alloc, &stretch.lease)?;
     json!(in alloc; {
         "stretch": {
@@ -40,7 +40,7 @@ fn stretch_json(alloc: Global, task: u64, stretch: &Stretch) -> Result<Value, Al
 fn broken_json(alloc: Global, given: &GivenHandle) -> Result<Value, AllocError>
     ensures { IfOk result (λ v. view v ≡ broken_data given.now) }
 {
-    let breaks = quoted(alloc, given.breaks)?;
+    let breaks = large_json(alloc, given.breaks)?;
     json!(in alloc; {"broken": {"breaks": breaks, "handle": given.number}})
 }
 

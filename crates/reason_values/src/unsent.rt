@@ -5,9 +5,9 @@ ghost use Rattle.serde_json.specs.View.{members_view, view};
 ghost use Rattle.reason_values.specs.declared.unsent.Unsent.TheVariants as unsent;
 ghost use Rattle.reason_values.specs.Unsent.{made_data, member_name, sent_data, unsent_data, with_difference, with_name, with_values};
 
-use crate::members::quoted;
 use crate::place::{LogLine, place_json, put_place};
 use lease_rule::Kind;
+use reply_values::large_json;
 use serde_json::{Map, Value, json, put};
 use std::alloc::{AllocError, Global};
 use wire::kind_word;
@@ -63,7 +63,7 @@ pub enum Unsent {
 pub fn made_json(alloc: Global, made: u64) -> Result<Value, AllocError>
     ensures { IfOk result (λ v. view v ≡ made_data made) }
 {
-    json!(in alloc; {"made": quoted(alloc, made)?})
+    json!(in alloc; {"made": large_json(alloc, made)?})
 }
 
 fn member_name(member: Member) -> &'static str
@@ -112,7 +112,12 @@ fn put_difference(
             there,
         } => {
             put_name(map, alloc, member_name(member))?;
-            put_values(map, alloc, quoted(alloc, here)?, quoted(alloc, there)?)
+            put_values(
+                map,
+                alloc,
+                large_json(alloc, here)?,
+                large_json(alloc, there)?,
+            )
         }
         Difference::Kind { here, there } => {
             put_name(map, alloc, "kind")?;
@@ -130,7 +135,7 @@ fn later_json(alloc: Global, lines: &[LogLine], call: u64, ticket: u64) -> Resul
 {
     let mut map = Map::new(alloc);
     put_place(&mut map, alloc, lines, call)?;
-    put(&mut map, alloc, "ticket", quoted(alloc, ticket)?)?;
+    put(&mut map, alloc, "ticket", large_json(alloc, ticket)?)?;
     json!(in alloc; {"later": Value::Object(map)})
 }
 

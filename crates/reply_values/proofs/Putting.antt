@@ -49,7 +49,7 @@ warned_whole warnings d whole =
     with_number_whole (codes "not_owner") warnings.not_owner (with_member_if (codes "untimely") (option_map large_data warnings.untimely) d)
     (with_number_whole (codes "untimely") warnings.untimely d whole)
 
-answered_whole : (v call : Data) (ticket : Option ℕ) (reply reason : Option Data) (warnings : Warnings) → v ≡ answered_data call ticket reply reason warnings
+pub answered_whole : (v call : Data) (ticket : Option ℕ) (reply reason : Option Data) (warnings : Warnings) → v ≡ answered_data call ticket reply reason warnings
     → has_float call ≡ false → IsWholeIf reply → IsWholeIf reason → has_float v ≡ false
 answered_whole v call ticket reply reason warnings is call_whole reply_whole reason_whole =
     let ticketed = with_member_if (codes "ticket") (option_map large_data ticket) call in

@@ -1,10 +1,10 @@
 //! The members of an object that is written.
 
-ghost use Rattle.std.specs.Prelude.{◌≡◌, OnOk};
+ghost use Rattle.std.specs.Prelude.{◌≡◌, OnOk, option_map};
 ghost use Rattle.serde_json.specs.Data.{string, put as put_member};
-ghost use Rattle.serde_json.specs.View.{members_view};
+ghost use Rattle.serde_json.specs.View.{members_view, view};
 ghost use Rattle.wire.specs.Objects.{number_data};
-ghost use Rattle.reply_values.specs.Values.{large_data};
+ghost use Rattle.reply_values.specs.Values.{large_data, put_if};
 
 use crate::large::large_json;
 use serde_json::{Map, Value, put};
@@ -49,4 +49,20 @@ pub fn put_text(
 {
     let value = Value::String(String::from_str(alloc, text)?);
     put(map, alloc, name, value)
+}
+
+/// Puts a value, if there is one, under this name.
+pub fn put_if(
+    map: &mut Map<String, Value>,
+    alloc: Global,
+    name: &str,
+    value: Option<Value>,
+) -> Result<(), AllocError>
+    ensures { OnOk result (members_view map.new.entries
+        ≡ put_if name.now (option_map view value) (members_view map.old.entries)) }
+{
+    match value {
+        Some(value) => put(map, alloc, name, value),
+        None => Ok(()),
+    }
 }

@@ -12,7 +12,7 @@ use Rattle.wire.specs.Objects.{list_data, number_data}
 use Rattle.wire.proofs.Lists.{items_whole}
 use Rattle.reason_values.specs.declared.place.LogLine.{LogLine}
 use Rattle.reason_values.specs.Lines.{line_text}
-use Rattle.reason_values.specs.Members.{quoted_data, with_member_if}
+use Rattle.reply_values.specs.Values.{large_data, put_if}
 use Rattle.reason_values.specs.Places.{place_data, with_line, with_place}
 use Rattle.trace_ends.specs.declared.drift.DriftFound.{DriftFound}
 use Rattle.trace_ends.specs.declared.drift.DriftFound.TheVariants.{Kept, Wrong}
@@ -56,7 +56,7 @@ is_whole None = Unit {0}
 is_whole (Some value) = has_float value ≡ false
 
 pub put_if_whole : (name : List ℕ) (value : Option Data) (others : Members) → is_whole value → members_have_float others ≡ false
-    → members_have_float (with_member_if name value others) ≡ false
+    → members_have_float (put_if name value others) ≡ false
 unfolding is_whole
 put_if_whole name None others whole rest = rest
 put_if_whole name (Some value) others whole rest = put_whole name value others whole rest
@@ -85,7 +85,7 @@ with_call_whole lines None others rest = rest
 with_call_whole lines (Some call) others rest = with_place_whole lines call others rest
 
 reading_whole : (lines : List LogLine) (reading : PlacedReading) → has_float (reading_data lines reading) ≡ false
-reading_whole lines reading = with_call_whole lines reading.call (put (codes "at") (quoted_data reading.at) no_members) refl
+reading_whole lines reading = with_call_whole lines reading.call (put (codes "at") (large_data reading.at) no_members) refl
 
 untimely_whole : (lines : List LogLine) (untimely : UntimelyReadings) → has_float (untimely_data lines untimely) ≡ false
 untimely_whole lines untimely =
@@ -96,7 +96,7 @@ unfolding is_whole
 untimely_if_whole lines None = tt
 untimely_if_whole lines (Some untimely) = untimely_whole lines untimely
 
-most_whole : (why : SampleFault) → is_whole (option_map quoted_data (most_of why))
+most_whole : (why : SampleFault) → is_whole (option_map large_data (most_of why))
 unfolding is_whole
 most_whole fault.Back = tt
 most_whole fault.Ahead = tt
@@ -106,15 +106,15 @@ sample_whole : (lines : List LogLine) (wrong : WrongSample) → has_float (sampl
 sample_whole lines wrong =
     let placed = with_place lines wrong.call no_members in
     let kept = put (codes "kept") (boolean false) placed in
-    let now = put (codes "now") (quoted_data wrong.now) kept in
-    let reading = put (codes "reading") (quoted_data wrong.reading) now in
-    let sent = put (codes "sent") (quoted_data wrong.sent) reading in
+    let now = put (codes "now") (large_data wrong.now) kept in
+    let reading = put (codes "reading") (large_data wrong.reading) now in
+    let sent = put (codes "sent") (large_data wrong.sent) reading in
     let why = put (codes "why") (string (fault_word wrong.why)) sent in
-    put_if_whole (codes "most") (option_map quoted_data (most_of wrong.why)) why (most_whole wrong.why)
+    put_if_whole (codes "most") (option_map large_data (most_of wrong.why)) why (most_whole wrong.why)
     (put_whole (codes "why") (string (fault_word wrong.why)) sent refl
-    (put_whole (codes "sent") (quoted_data wrong.sent) reading refl
-    (put_whole (codes "reading") (quoted_data wrong.reading) now refl
-    (put_whole (codes "now") (quoted_data wrong.now) kept refl
+    (put_whole (codes "sent") (large_data wrong.sent) reading refl
+    (put_whole (codes "reading") (large_data wrong.reading) now refl
+    (put_whole (codes "now") (large_data wrong.now) kept refl
     (put_whole (codes "kept") (boolean false) placed refl (with_place_whole lines wrong.call no_members refl))))))
 
 drift_whole : (lines : List LogLine) (found : DriftFound) → has_float (drift_data lines found) ≡ false
@@ -206,7 +206,7 @@ one_whole lines calls run =
     let counts = put (codes "counts") (counts_data run.counts) verdict in
     let words = with_number_if (codes "one_word") run.one_word counts in
     let silent = with_list_if (codes "silent") (map number_data run.silent.items) words in
-    let drift = with_member_if (codes "drift") (option_map (drift_data lines) run.drift) silent in
+    let drift = put_if (codes "drift") (option_map (drift_data lines) run.drift) silent in
     flag_whole (codes "forgotten") run.forgotten drift
     (put_if_whole (codes "drift") (option_map (drift_data lines) run.drift) silent (drift_if_whole lines run.drift)
     (list_if_whole (codes "silent") (map number_data run.silent.items) words (numbers_whole run.silent.items)
@@ -242,7 +242,7 @@ begun_whole : (of : List ℕ) (job : Job) → members_have_float (begun of job) 
 begun_whole of job =
     put_whole (codes "job") (job_data job) (put (codes "of") (string of) (put (codes "trace") (number_data 1) no_members)) (job_whole job) refl
 
-number_if_whole : (number : Option ℕ) → is_whole (option_map quoted_data number)
+number_if_whole : (number : Option ℕ) → is_whole (option_map large_data number)
 unfolding is_whole
 number_if_whole None = tt
 number_if_whole (Some number) = refl
@@ -255,7 +255,7 @@ text_if_whole (Some text) = refl
 key_whole : (slice_key : Option ℕ) (key : Option (List ℕ)) (others : Members) → members_have_float others ≡ false
     → members_have_float (with_key slice_key key others) ≡ false
 key_whole slice_key key others rest =
-    put_if_whole (codes "slice_key") (option_map quoted_data slice_key) (with_member_if (codes "key") (option_map string key) others)
+    put_if_whole (codes "slice_key") (option_map large_data slice_key) (put_if (codes "key") (option_map string key) others)
     (number_if_whole slice_key) (put_if_whole (codes "key") (option_map string key) others (text_if_whole key) rest)
 
 torn_whole : (torn : List LogLine) (others : Members) → members_have_float others ≡ false → members_have_float (with_torn torn others) ≡ false

@@ -18,7 +18,7 @@ use Rattle.trace_ends.specs.declared.hints.OpenHint.{OpenHint}
 use Rattle.reason_values.specs.declared.place.LogLine.{LogLine}
 use Rattle.reasons.specs.declared.untimely.PlacedReading.{PlacedReading}
 use Rattle.reasons.specs.declared.untimely.UntimelyReadings.{UntimelyReadings}
-use Rattle.reason_values.specs.Members.{quoted_data, with_member_if}
+use Rattle.reply_values.specs.Values.{large_data, put_if}
 use Rattle.reason_values.specs.Places.{place_data, with_place}
 use Rattle.trace_ends.specs.Faults.{named_data}
 
@@ -30,7 +30,7 @@ with_call lines None members = members
 with_call lines (Some call) members = with_place lines call members
 
 abbrev pub reading_data : List LogLine → PlacedReading → Data
-reading_data lines reading = object (with_call lines reading.call (put (codes "at") (quoted_data reading.at) no_members))
+reading_data lines reading = object (with_call lines reading.call (put (codes "at") (large_data reading.at) no_members))
 
 abbrev pub untimely_data : List LogLine → UntimelyReadings → Data
 untimely_data lines untimely = object_data
@@ -50,8 +50,8 @@ most_of (fault.Beyond most) = Some most
 most_of _ = None
 
 abbrev pub sample_data : List LogLine → WrongSample → Data
-sample_data lines wrong = object (with_member_if (codes "most") (option_map quoted_data (most_of wrong.why)) (put (codes "why") (string (fault_word wrong.why))
-    (put (codes "sent") (quoted_data wrong.sent) (put (codes "reading") (quoted_data wrong.reading) (put (codes "now") (quoted_data wrong.now)
+sample_data lines wrong = object (put_if (codes "most") (option_map large_data (most_of wrong.why)) (put (codes "why") (string (fault_word wrong.why))
+    (put (codes "sent") (large_data wrong.sent) (put (codes "reading") (large_data wrong.reading) (put (codes "now") (large_data wrong.now)
     (put (codes "kept") (boolean false) (with_place lines wrong.call no_members)))))))
 
 abbrev pub drift_data : List LogLine → DriftFound → Data
@@ -82,7 +82,7 @@ abbrev pub begin_data : ℕ → Data
 begin_data task = object_data ((codes "begin", object_data ((codes "task", number_data task) ∷ [])) ∷ [])
 
 abbrev pub grants_data : GrantsHint → Data
-grants_data hint = object_data ((codes "grants", object_data ((codes "from", quoted_data hint.from) ∷ (codes "to", quoted_data hint.to) ∷ [])) ∷ [])
+grants_data hint = object_data ((codes "grants", object_data ((codes "from", large_data hint.from) ∷ (codes "to", large_data hint.to) ∷ [])) ∷ [])
 
 -- what there is, as a list
 abbrev pub listed : Option Data → List Data
@@ -110,7 +110,7 @@ with_flag_if name flag members = if flag then put name (boolean true) members el
 
 -- how many calls there are, and the first reading that is not timely, if there is one
 abbrev pub ended : List LogLine → ℕ → Option UntimelyReadings → Members
-ended lines calls untimely = with_member_if (codes "untimely") (option_map (untimely_data lines) untimely) (put (codes "calls") (number_data calls) no_members)
+ended lines calls untimely = put_if (codes "untimely") (option_map (untimely_data lines) untimely) (put (codes "calls") (number_data calls) no_members)
 
 -- these members, with the verdict on logs
 abbrev pub judged : List ℕ → Members → Members
@@ -127,7 +127,7 @@ script_end_data calls untimely = end_data (ended [] calls untimely)
 -- of logs that are one run
 abbrev pub one_members : List LogLine → ℕ → OneRun → Members
 one_members lines calls run = with_flag_if (codes "forgotten") run.forgotten
-    (with_member_if (codes "drift") (option_map (drift_data lines) run.drift)
+    (put_if (codes "drift") (option_map (drift_data lines) run.drift)
     (with_list_if (codes "silent") (map number_data run.silent.items)
     (with_number_if (codes "one_word") run.one_word
     (put (codes "counts") (counts_data run.counts) (judged (codes "one") (ended lines calls run.untimely))))))
@@ -139,7 +139,7 @@ one_end_data lines calls run = end_data (one_members lines calls run)
 abbrev pub double_data : List LogLine → DoubleTicket → Data
 double_data lines double = object_data
     ((codes "first", place_data lines double.first) ∷ (codes "second", place_data lines double.second)
-    ∷ (codes "ticket", quoted_data double.ticket) ∷ [])
+    ∷ (codes "ticket", large_data double.ticket) ∷ [])
 
 abbrev pub double_members : List LogLine → ℕ → DoubleTicket → Members
 double_members lines calls double = put (codes "double") (double_data lines double) (judged (codes "double") (ended lines calls None))

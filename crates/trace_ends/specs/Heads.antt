@@ -4,7 +4,7 @@ use Rattle.serde_json.specs.Data.{Data, Members, no_members, object, put, string
 use Rattle.job_calls.specs.Jobs.{Job}
 use Rattle.wire.specs.Objects.{list_data, number_data, object_data}
 use Rattle.reason_values.specs.declared.place.LogLine.{LogLine}
-use Rattle.reason_values.specs.Members.{quoted_data, with_member_if}
+use Rattle.reply_values.specs.Values.{large_data, put_if}
 
 -- how many tasks own a slice: one number, or the least and the greatest
 abbrev pub redundancy_data : ℕ → ℕ → Data
@@ -24,8 +24,8 @@ begun of job = put (codes "job") (job_data job) (put (codes "of") (string of) (p
 
 -- these members, with the key whose stretches follow, and its text if it was given as one
 abbrev pub with_key : Option ℕ → Option (List ℕ) → Members → Members
-with_key slice_key key members = with_member_if (codes "slice_key") (option_map quoted_data slice_key)
-    (with_member_if (codes "key") (option_map string key) members)
+with_key slice_key key members = put_if (codes "slice_key") (option_map large_data slice_key)
+    (put_if (codes "key") (option_map string key) members)
 
 abbrev pub script_members : Job → Option ℕ → Option (List ℕ) → Members
 script_members job slice_key key = with_key slice_key key (begun (codes "script") job)

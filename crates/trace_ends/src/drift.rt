@@ -3,9 +3,10 @@
 ghost use Rattle.std.specs.Prelude.{◌≡◌, IfOk, option_map};
 ghost use Rattle.serde_json.specs.View.{members_view, view};
 ghost use Rattle.trace_ends.specs.Ends.{drift_data, fault_word, most_of, sample_data};
-ghost use Rattle.reason_values.specs.Members.{quoted_data};
+ghost use Rattle.reply_values.specs.Values.{large_data};
 
-use reason_values::{LogLine, put_if, put_place, quoted};
+use reason_values::{LogLine, put_place};
+use reply_values::{large_json, put_if};
 use serde_json::{Map, Value, json, put};
 use std::alloc::{AllocError, Global};
 
@@ -55,10 +56,10 @@ fn fault_word(why: SampleFault) -> &'static str
 
 // Writes the most that the table's clock could have shown, if that is what is wrong.
 fn most_json(alloc: Global, why: SampleFault) -> Result<Option<Value>, AllocError>
-    ensures { IfOk result (λ v. option_map view v ≡ option_map quoted_data (most_of why)) }
+    ensures { IfOk result (λ v. option_map view v ≡ option_map large_data (most_of why)) }
 {
     match why {
-        SampleFault::Beyond(most) => Ok(Some(quoted(alloc, most)?)),
+        SampleFault::Beyond(most) => Ok(Some(large_json(alloc, most)?)),
         SampleFault::Back | SampleFault::Ahead => Ok(None),
     }
 }
@@ -69,9 +70,14 @@ fn sample_json(alloc: Global, lines: &[LogLine], wrong: &WrongSample) -> Result<
     let mut map = Map::new(alloc);
     put_place(&mut map, alloc, lines, wrong.call)?;
     put(&mut map, alloc, "kept", Value::Bool(false))?;
-    put(&mut map, alloc, "now", quoted(alloc, wrong.now)?)?;
-    put(&mut map, alloc, "reading", quoted(alloc, wrong.reading)?)?;
-    put(&mut map, alloc, "sent", quoted(alloc, wrong.sent)?)?;
+    put(&mut map, alloc, "now", large_json(alloc, wrong.now)?)?;
+    put(
+        &mut map,
+        alloc,
+        "reading",
+        large_json(alloc, wrong.reading)?,
+    )?;
+    put(&mut map, alloc, "sent", large_json(alloc, wrong.sent)?)?;
     let why = Value::try_from_str(alloc, fault_word(wrong.why))?;
     put(&mut map, alloc, "why", why)?;
     put_if(&mut map, alloc, "most", most_json(alloc, wrong.why)?)?;

@@ -10,8 +10,9 @@ use crate::drift::{DriftFound, drift_json};
 use crate::hints::{Hints, hint_values};
 use crate::line::named_line;
 use crate::untimely::untimely_json;
-use reason_values::{LogLine, place_json, put_if, quoted};
+use reason_values::{LogLine, place_json};
 use reasons::UntimelyReadings;
+use reply_values::{large_json, put_if};
 use serde_json::{Map, Value, json, put};
 use std::alloc::{AllocError, Global};
 
@@ -246,7 +247,7 @@ fn double_json(alloc: Global, lines: &[LogLine], double: DoubleTicket) -> Result
 {
     let first = place_json(alloc, lines, double.first)?;
     let second = place_json(alloc, lines, double.second)?;
-    let ticket = quoted(alloc, double.ticket)?;
+    let ticket = large_json(alloc, double.ticket)?;
     json!(in alloc; {"first": first, "second": second, "ticket": ticket})
 }
 

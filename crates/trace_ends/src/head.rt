@@ -6,11 +6,12 @@ ghost use Rattle.serde_json.specs.View.{members_view, view};
 ghost use Rattle.wire.specs.Objects.{list_data};
 ghost use Rattle.trace_ends.specs.Heads.{begun, job_data, log_line_data, logs_head_data, logs_members, redundancy_data, script_head_data, script_members, with_key, with_torn};
 ghost use Rattle.reason_values.specs.Lines.{line_text};
-ghost use Rattle.reason_values.specs.Members.{quoted_data};
+ghost use Rattle.reply_values.specs.Values.{large_data};
 
 use crate::line::object_line;
 use job_calls::Job;
-use reason_values::{LogLine, put_if, quoted};
+use reason_values::LogLine;
+use reply_values::{large_json, put_if};
 use serde_json::{Map, Value, json, put};
 use slice_ranges::SliceKey;
 use std::alloc::{AllocError, Global};
@@ -58,11 +59,11 @@ fn begun(alloc: Global, of: &str, job: Job) -> Result<Map<String, Value>, AllocE
     Ok(map)
 }
 
-fn quoted_key(alloc: Global, slice_key: Option<SliceKey>) -> Result<Option<Value>, AllocError>
-    ensures { IfOk result (λ v. option_map view v ≡ option_map quoted_data slice_key) }
+fn slice_key_json(alloc: Global, slice_key: Option<SliceKey>) -> Result<Option<Value>, AllocError>
+    ensures { IfOk result (λ v. option_map view v ≡ option_map large_data slice_key) }
 {
     match slice_key {
-        Some(key) => Ok(Some(quoted(alloc, key.value())?)),
+        Some(key) => Ok(Some(large_json(alloc, key.value())?)),
         None => Ok(None),
     }
 }
@@ -87,7 +88,7 @@ fn put_key(
         ≡ with_key slice_key (option_map (λ k. k.now) key.entry) (members_view map.old.entries)) }
 {
     put_if(map, alloc, "key", text_of(alloc, key)?)?;
-    put_if(map, alloc, "slice_key", quoted_key(alloc, slice_key)?)
+    put_if(map, alloc, "slice_key", slice_key_json(alloc, slice_key)?)
 }
 
 fn script_members(

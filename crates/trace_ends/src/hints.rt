@@ -4,7 +4,8 @@ ghost use Rattle.std.specs.Prelude.{◌≡◌, ◌++◌, IfOk, OnOk, map, option
 ghost use Rattle.serde_json.specs.View.{view};
 ghost use Rattle.trace_ends.specs.Ends.{begin_data, grants_data, hint_values, listed, open_data};
 
-use reason_values::{LogLine, place_json, quoted};
+use reason_values::{LogLine, place_json};
+use reply_values::large_json;
 use serde_json::{Value, json};
 use std::alloc::{AllocError, Global};
 
@@ -70,8 +71,8 @@ fn grants_json(alloc: Global, hint: Option<GrantsHint>) -> Result<Option<Value>,
     let Some(GrantsHint { from, to }) = hint else {
         return Ok(None);
     };
-    let from = quoted(alloc, from)?;
-    let to = quoted(alloc, to)?;
+    let from = large_json(alloc, from)?;
+    let to = large_json(alloc, to)?;
     let hint = json!(in alloc; {"grants": {"from": from, "to": to}})?;
     Ok(Some(hint))
 }

@@ -4,8 +4,9 @@ ghost use Rattle.std.specs.Prelude.{◌≡◌, IfOk, OnOk};
 ghost use Rattle.serde_json.specs.View.{members_view, view};
 ghost use Rattle.trace_ends.specs.Ends.{reading_data, untimely_data, with_call};
 
-use reason_values::{LogLine, put_place, quoted};
+use reason_values::{LogLine, put_place};
 use reasons::{PlacedReading, UntimelyReadings};
+use reply_values::large_json;
 use serde_json::{Map, Value, json, put};
 use std::alloc::{AllocError, Global};
 
@@ -31,7 +32,7 @@ fn reading_json(
     ensures { IfOk result (λ v. view v ≡ reading_data lines.now reading) }
 {
     let mut map = Map::new(alloc);
-    put(&mut map, alloc, "at", quoted(alloc, reading.at)?)?;
+    put(&mut map, alloc, "at", large_json(alloc, reading.at)?)?;
     put_call(&mut map, alloc, lines, reading.call)?;
     Ok(Value::Object(map))
 }

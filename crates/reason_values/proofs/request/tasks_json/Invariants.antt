@@ -1,7 +1,0 @@
-use Rattle.std.proofs.Common.{◌≡◌, map, take}
-use Rattle.serde_json.specs.View.{view}
-use Rattle.wire.specs.Objects.{number_data}
-use Rattle.reason_values.proofs.request.tasks_json.Given as goal
-
-abbrev pub invariant-loop-task : goal.invariant-loop-task
-invariant-loop-task l = map view l.list.items ≡ map number_data (take l.task-index l.tasks)
