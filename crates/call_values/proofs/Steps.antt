@@ -80,7 +80,7 @@ with_sent_whole (step.Plan loads tasks bounds) sent d sent_whole whole = whole
 with_sent_whole (step.Next assigner at wanted) sent d sent_whole whole = whole
 with_sent_whole (step.DropTerm assigner) sent d sent_whole whole = whole
 
-step_whole : (made : Step) (sent : Option Data) → IsWholeIf sent → has_float (step_data made sent) ≡ false
+pub step_whole : (made : Step) (sent : Option Data) → IsWholeIf sent → has_float (step_data made sent) ≡ false
 step_whole made sent sent_whole = with_sent_whole made sent (alone_data made) sent_whole (alone_whole made)
 
 pub step_if_ok : (result : Result Value AllocError) (made : Step) (sent : Option Data) → IfOk result (λ v. view v ≡ step_data made sent)
