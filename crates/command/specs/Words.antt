@@ -95,11 +95,18 @@ timeline_flags = subcommand (codes "timeline") (flag (codes "clerks") ∷ [])
 abbrev pub timeline_words : Shape
 timeline_words = subcommand (codes "timeline") ((flag (codes "clerks") ∷ view_rules) ++ file ∷ [])
 
+-- `trace`, first before the script
+abbrev pub trace_key : Shape
+trace_key = subcommand (codes "trace") (option (codes "key") ∷ [])
+
+abbrev pub trace_words : Shape
+trace_words = subcommand (codes "trace") (option (codes "key") ∷ file ∷ [])
+
 -- the command: one of these subcommands must be named
 abbrev pub hourstable : App
 hourstable = record {
   top = record (new_shape (codes "hourstable")) { is_leaf = false; has_version = true; subcommand_required = true };
-  subs = run_words ∷ audit_words ∷ explain_words ∷ timeline_words ∷ [];
+  subs = run_words ∷ audit_words ∷ explain_words ∷ timeline_words ∷ trace_words ∷ [];
 }
 
 -- ---- what was given to a subcommand: a row for each option and argument
@@ -189,6 +196,15 @@ abbrev pub AsksTimeline : List Row → Asked → Type 0
 AsksTimeline rows asked = (clerks : Bool) × IsFlag (codes "clerks") rows clerks × (picture : ScriptText) × IsPicture rows clerks picture
     × IsOfEither (logs_named rows) (log_option_given rows) picture (logged.Picture clerks) rows asked
 
+-- a trace with the stretches for the key that `--key` names
+abbrev pub IsTraced : List Row → ScriptText → Type 0
+IsTraced rows (show.Traced key) = option_map (λ k. k.now) key ≡ first_of (codes "key") rows
+IsTraced rows _ = ⊥
+
+-- `trace [--key KEY] [FILE]`
+abbrev pub AsksTrace : List Row → Asked → Type 0
+AsksTrace rows asked = (traced : ScriptText) × IsTraced rows traced × IsRequest traced rows asked
+
 -- names with one before them, if there is one
 abbrev pub with_first : Option Text → List Text → List Text
 with_first None names = names
@@ -210,6 +226,7 @@ pub record Asks (name : Text) (rows : List Row) (asked : Asked) : Type 0 where
   pub audit : name ≡ codes "audit" → AsksAudit rows asked
   pub explain : name ≡ codes "explain" → AsksExplain rows asked
   pub timeline : name ≡ codes "timeline" → AsksTimeline rows asked
+  pub trace : name ≡ codes "trace" → AsksTrace rows asked
 
 -- these words ask for this; the first is the name of the program
 pub record WordsAsk (words : List Text) (asked : Asked) : Type 0 where

@@ -5,7 +5,7 @@ ghost use Rattle.clap.specs.Kinds.{FailsBy};
 ghost use Rattle.clap.specs.Matches.{found_of};
 ghost use Rattle.clap.specs.Simple.{App};
 ghost use Rattle.clap.specs.Walk.{first_of, rows_of};
-ghost use Rattle.command.specs.Words.{Asks, AsksAudit, AsksExplain, AsksRun, AsksTimeline, AreViewWords, IsOfLogs, IsOfScript, IsRequest, IsSource, log_option_given, option_given, with_first, audit_drift, audit_flags, audit_from, audit_until, audit_words, explain_flags, explain_words, run_words, shown_logs, timeline_flags, timeline_words, view_rules, with_rules, IsArgument, IsReadAs, WordsAsk, bare_hourstable, file, flag, hourstable, leaf, logs, option, word_faults};
+ghost use Rattle.command.specs.Words.{Asks, AsksAudit, AsksExplain, AsksRun, AsksTimeline, AsksTrace, AreViewWords, IsOfLogs, IsOfScript, IsRequest, IsSource, log_option_given, option_given, with_first, audit_drift, audit_flags, audit_from, audit_until, audit_words, explain_flags, explain_words, run_words, shown_logs, timeline_flags, timeline_words, trace_key, trace_words, view_rules, with_rules, IsArgument, IsReadAs, WordsAsk, bare_hourstable, file, flag, hourstable, leaf, logs, option, word_faults};
 ghost use Rattle.command.specs.declared.arguments.ScriptText.TheVariants as show;
 
 use clap::{Arg, ArgAction, ArgMatches, Command, Error};
@@ -60,6 +60,9 @@ pub enum ScriptText<'a> {
     /// A picture, optionally with the stretches in which each task may serve a key, and with
     /// clerks.
     Picture { key: Option<&'a str>, clerks: bool },
+    /// A trace: JSON lines with each reply and what decides it, optionally with the stretches in which
+    /// each task may serve a key.
+    Traced { key: Option<&'a str> },
 }
 
 /// A script, and what is written about it.
@@ -254,6 +257,23 @@ fn timeline_command<'a>(alloc: Global) -> Result<Command<'a>, AllocError>
     with_view(alloc, timeline_flags(alloc)?, key)?.arg(file_argument(alloc, SCRIPT))
 }
 
+// Returns the command for traces, before the script.
+fn trace_key<'a>(alloc: Global) -> Result<Command<'a>, AllocError>
+    ensures { IfOk result (IsReadAs (leaf trace_key)) }
+{
+    let key = "Add the readings at which each task may serve this key";
+    Command::new(alloc, "trace")
+        .about("Write each reply of a script, and the values that decide it, as JSON lines")
+        .after_help(SCRIPT_STATUSES)
+        .arg(value_argument(alloc, "key", "KEY", key))
+}
+
+fn trace_command<'a>(alloc: Global) -> Result<Command<'a>, AllocError>
+    ensures { IfOk result (IsReadAs (leaf trace_words)) }
+{
+    trace_key(alloc)?.arg(file_argument(alloc, SCRIPT))
+}
+
 fn logs_argument<'a>(alloc: Global) -> Arg<'a>
     ensures { IsArgument logs result }
 {
@@ -333,7 +353,8 @@ fn hourstable_command<'a>(alloc: Global, version: &'a str) -> Result<Command<'a>
         .subcommand(run_command(alloc)?)?
         .subcommand(audit_command(alloc)?)?
         .subcommand(explain_command(alloc)?)?
-        .subcommand(timeline_command(alloc)?)
+        .subcommand(timeline_command(alloc)?)?
+        .subcommand(trace_command(alloc)?)
 }
 
 // Returns the input of this name, or standard input.
@@ -475,6 +496,13 @@ fn timeline_request<'a>(alloc: Global, matches: &ArgMatches<'a>) -> Result<Asked
     ))
 }
 
+fn trace_request<'a>(matches: &ArgMatches<'a>) -> Asked<'a>
+    ensures { AsksTrace (rows_of (found_of matches.now)) result }
+{
+    let key = matches.get_str("key");
+    play_request(matches, ScriptText::Traced { key })
+}
+
 // Returns the names of the logs to audit: the state to go on from, and those that were given.
 fn names_of<'a>(
     alloc: Global,
@@ -531,6 +559,7 @@ fn asked_by<'a>(
         "audit" => audited(alloc, matches),
         "explain" => explain_request(alloc, matches),
         "timeline" => timeline_request(alloc, matches),
+        "trace" => Ok(trace_request(matches)),
         _ => Ok(run_request(matches)),
     }
 }

@@ -1,4 +1,4 @@
-//! `hourstable run`, `explain` and `timeline`: each reads a script, and writes a text about it.
+//! `hourstable run`, `explain`, `timeline` and `trace`: each reads a script, and writes a text about it.
 
 ghost use Rattle.std.specs.Prelude.{◌≡◌, IfErr, IfOk, OnOk, string_bytes, true};
 ghost use Rattle.std.specs.List.{list_all};
@@ -19,6 +19,7 @@ use service::{Script, is_timely, output_of, replies_of, script_of};
 use std::alloc::{AllocError, Global};
 use std::io::{Read, Write};
 use timeline::timeline_svg;
+use trace_text::trace_text;
 use world::Step;
 
 // Parses the script in the bytes.
@@ -90,15 +91,19 @@ fn numbered_output(alloc: Global, script: &Script) -> Result<String, AllocError>
 }
 
 // Returns the text to write about a script.
-fn shown(alloc: Global, text: ScriptText, script: &Script) -> Result<String, AllocError>
-    ensures { IfOk result (λ shown. IsShown text.entry script.now (string_bytes shown)) }
+fn shown(alloc: Global, text: ScriptText, script: &Script) -> Result<Vec<u8>, AllocError>
+    ensures { IfOk result (λ shown. IsShown text.entry script.now shown.items) }
 {
-    match text {
-        ScriptText::Lines => output_of(alloc, script),
-        ScriptText::Numbered => numbered_output(alloc, script),
-        ScriptText::Explained { numbered } => explained_text(alloc, script, numbered),
-        ScriptText::Picture { key, clerks } => timeline_svg(alloc, script, key, clerks),
-    }
+    let shown = match text {
+        ScriptText::Lines => output_of(alloc, script)?,
+        ScriptText::Numbered => numbered_output(alloc, script)?,
+        ScriptText::Explained { numbered } => explained_text(alloc, script, numbered)?,
+        ScriptText::Picture { key, clerks } => timeline_svg(alloc, script, key, clerks)?,
+        ScriptText::Traced { key } => {
+            return trace_text(alloc, script.job, script.steps.as_slice(), key);
+        }
+    };
+    Ok(shown.into_bytes())
 }
 
 /// Reads a script to its end, plays it, and writes the text that is wanted.
@@ -120,6 +125,6 @@ pub fn run_lines<R: Read, W: Write>(
     let bytes = read_all(alloc, reader)?;
     let script = script_in(alloc, bytes.as_slice())?;
     let shown = shown(alloc, text, &script)?;
-    write_all(writer, shown.as_str().as_bytes())?;
+    write_all(writer, shown.as_slice())?;
     Ok(())
 }
