@@ -8,7 +8,7 @@ use Rattle.log_line.specs.declared.entry.LogEntry.{LogEntry}
 use Rattle.log_run.specs.internals.Machines.{HavePlayed}
 use Rattle.log_trace.specs.declared.line.LogLine.{LogLine}
 use Rattle.log_trace.specs.declared.tracer.LogTracer.{LogTracer}
-use Rattle.log_trace.specs.Calls.{AreCallsAt}
+use Rattle.log_trace.specs.Calls.{AreCallsAt, AreMadeAt}
 use Rattle.log_trace.specs.Lines.{IsLine, readings_before}
 
 -- a tracer has played these entries, each with its calls at its index
@@ -26,4 +26,5 @@ pub record IsTracedAt (job : Continued) (entries : List LogEntry) (index : ℕ) 
   pub after : Past
   pub placed_after : List Placed
   pub tells : IsLine job entries index entry past placed after line
+  pub at : AreMadeAt index past placed after placed_after
   pub tracing : IsTracing job (take (index + 1) entries) after placed_after tracer

@@ -10,8 +10,12 @@ mod line;
 mod making;
 mod owners;
 mod placing;
+mod serving;
+mod trace;
 mod tracer;
 mod unsent;
 
 pub use line::LogLine;
+pub use serving::{LogServing, serving_of};
+pub use trace::{LogTrace, log_trace_of};
 pub use tracer::LogTracer;

@@ -7,7 +7,7 @@ use reasons::Reason;
 /// A call of logs that was played, and what decides its reply.
 ///
 /// Places are indices of entries, in the order of the tickets.
-#[derive(Debug, Drop)]
+#[derive(Drop)]
 pub struct LogLine {
     /// The place of the call.
     pub index: usize,

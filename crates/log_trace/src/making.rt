@@ -1,9 +1,10 @@
 //! The calls that entries stand for, and the reasons of their replies.
 
-ghost use Rattle.std.specs.Prelude.{◌≡◌, IfOk, List};
+ghost use Rattle.std.specs.Prelude.{◌≡◌, ℕ, true, false, IfOk, List};
 ghost use Rattle.cluster.specs.Pasts.{Past};
 ghost use Rattle.cluster.specs.continued.Jobs.{Continued};
 ghost use Rattle.reasons.specs.Placed.{ArePlaces, Placed};
+ghost use Rattle.reasons.specs.declared.places.CallPlaces.{CallPlaces as Places};
 ghost use Rattle.reasons.specs.Questions.{question_of};
 ghost use Rattle.log_run.specs.Calls.{call_after};
 ghost use Rattle.log_run.specs.internals.Machines.{HavePlayed};
@@ -47,7 +48,7 @@ fn make_one(
     place: u64,
     call: &LoggedCall,
 ) -> Result<MadeCall, AllocError>
-    requires { is_single call.now }
+    requires { is_single call.now ≡ true }
     ensures { (job : Continued) (past : Past) (placed : List Placed) → HavePlayed job past machines.old → ArePlaces job.tasks placed places.old
         → IfOk result (λ made. IsMadeAt job past placed place call.now made machines.new places.new) }
 {
@@ -58,13 +59,34 @@ fn make_one(
         handle: cluster.next_handle(),
     };
     let answer = play(machines, call)?;
-    let cluster = machines.cluster();
-    let reason = reason_of(cluster, places, &question_of(call), &answer)?;
-    add_call(cluster, places, place, call, &heard, &answer)?;
+    let after = machines.cluster();
+    let reason = reason_of(after, places, &question_of(call), &answer)?;
+    add_call(after, places, place, call, &heard, &answer)?;
     Ok(MadeCall {
         reply: told_as(call, next, answer),
         reason,
     })
+}
+
+// Makes the calls of a table that is restored, and none for a sample.
+fn make_others(machines: &mut LogMachines, call: &LoggedCall) -> Result<MadeCall, AllocError>
+    requires { is_single call.now ≡ false }
+    ensures { (job : Continued) (past : Past) (placed : List Placed) (place : ℕ) (places : Places) → HavePlayed job past machines.old
+        → ArePlaces job.tasks placed places → IfOk result (λ made. IsMadeAt job past placed place call.now made machines.new places) }
+{
+    let reply = tell(machines, call)?;
+    Ok(MadeCall {
+        reply,
+        reason: None,
+    })
+}
+
+/// Whether a line stands for one call, as all do but those of a table that is restored and of a
+/// sample.
+pub fn is_single(call: &LoggedCall) -> bool
+    ensures { result ≡ is_single call.now }
+{
+    !matches!(call, LoggedCall::Restore(_) | LoggedCall::Sample(_))
 }
 
 /// Makes the calls that a line stands for, at `place`, and returns what its caller should be told
@@ -80,14 +102,9 @@ pub fn make_call(
     ensures { (job : Continued) (past : Past) (placed : List Placed) → HavePlayed job past machines.old → ArePlaces job.tasks placed places.old
         → IfOk result (λ made. IsMadeAt job past placed place call.now made machines.new places.new) }
 {
-    match call {
-        // The table's calls and a sample are no calls of tasks.
-        LoggedCall::Restore(_) | LoggedCall::Sample(_) => Ok(MadeCall {
-            reply: tell(machines, call)?,
-            reason: None,
-        }),
-        LoggedCall::Whole(_) | LoggedCall::HearBare { .. } | LoggedCall::LearnBare { .. } => {
-            make_one(machines, places, place, call)
-        }
+    if is_single(call) {
+        make_one(machines, places, place, call)
+    } else {
+        make_others(machines, call)
     }
 }

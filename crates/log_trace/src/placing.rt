@@ -1,6 +1,6 @@
 //! The places of the calls that tasks accepted.
 
-ghost use Rattle.std.specs.Prelude.{◌≡◌, ◌∷◌, IfOk, List, OnOk};
+ghost use Rattle.std.specs.Prelude.{◌≡◌, ◌∷◌, true, IfOk, List, OnOk};
 ghost use Rattle.cluster.specs.Pasts.{Past, event};
 ghost use Rattle.cluster.specs.continued.Clusters.{LeadsTo};
 ghost use Rattle.cluster.specs.continued.Jobs.{Continued};
@@ -46,17 +46,21 @@ pub fn add_call(
     heard: &Option<ClusterCall>,
     answer: &ClusterReply,
 ) -> Result<(), AllocError>
-    requires { is_single call.now }
+    requires { is_single call.now ≡ true }
     ensures { (job : Continued) (past : Past) (placed : List Placed) → LeadsTo job (event (call_after past call.now) answer.now ∷ past) cluster.now
         → IsHeardBy job past call.now heard.now → ArePlaces job.tasks placed places.old
         → OnOk result (ArePlaces job.tasks (placed_at place (event (call_after past call.now) answer.now) ∷ placed) places.new) }
 {
     cluster.run_law();
     lease_table::numbers_law();
-    match (call, heard) {
-        (LoggedCall::Whole(call), _) => places.add(place, call, answer),
-        (LoggedCall::HearBare { .. }, Some(heard)) => places.add(place, heard, answer),
-        // A grant that the machines do not know is refused, and no other such call is one of a task.
+    match call {
+        LoggedCall::Whole(call) => places.add(place, call, answer),
+        LoggedCall::HearBare { .. } => match heard {
+            Some(heard) => places.add(place, heard, answer),
+            // A grant that the machines do not know is refused.
+            None => Ok(()),
+        },
+        // No task takes another call.
         _ => Ok(()),
     }
 }

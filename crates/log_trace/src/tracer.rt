@@ -38,11 +38,13 @@ impl LogTracer {
         ensures { (job : Continued) → Begins job start.now → IfOk result (IsTracing job [] job.earlier []) }
     {
         let skew = start.job.policy().skew();
+        let machines = LogMachines::new(alloc, start, false)?;
+        let places = CallPlaces::new(alloc, start.job.tasks())?;
         Ok(LogTracer {
             alloc,
-            machines: LogMachines::new(alloc, start, false)?,
+            machines,
             greatest: GreatestReading::after(skew, start.table_reading()),
-            places: CallPlaces::new(alloc, start.job.tasks())?,
+            places,
         })
     }
 
@@ -91,7 +93,14 @@ impl LogTracer {
         self.greatest.read(call.reading());
         let is_told = is_worded(alloc, entry.line.reply.as_str(), &reply)?;
         let first_taking = taken_first(alloc, start, &entries[..index], call, &reply)?;
-        let unsent = unsent_of(alloc, self.machines.cluster(), entries, index, &reply)?;
+        let unsent = unsent_of(
+            alloc,
+            self.machines.cluster(),
+            entries,
+            index,
+            call,
+            &reply,
+        )?;
         let not_owner = not_owner_of(foreign, &reply);
         Ok(LogLine {
             index,

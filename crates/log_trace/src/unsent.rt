@@ -1,15 +1,14 @@
 //! What nothing sent before a call delivers it.
 
-ghost use Rattle.std.specs.Prelude.{◌≡◌, ◌<◌, IfOk, Some, get_or, length};
+ghost use Rattle.std.specs.Prelude.{◌≡◌, ◌<◌, IfOk, length};
 ghost use Rattle.cluster.specs.Pasts.{Past};
 ghost use Rattle.cluster.specs.continued.Clusters.{LeadsTo};
 ghost use Rattle.cluster.specs.continued.Jobs.{Continued};
-ghost use Rattle.log_line.specs.declared.entry.LogEntry.{LogEntry as Entry};
 ghost use Rattle.log_trace.specs.Lines.{IsUnsentIf, is_unsent};
 
 use cluster::Cluster;
 use log_causes::{Unsent, unsent_for};
-use log_line::{CallerReply, LogEntry};
+use log_line::{CallerReply, LogEntry, LoggedCall};
 use replies::{Refusal, Reply};
 use std::alloc::{AllocError, Global};
 
@@ -23,8 +22,8 @@ fn is_unsent(told: &CallerReply) -> bool
     )
 }
 
-/// Returns why nothing sent before what the call of the entry at `index` delivers, if its caller is
-/// told that nothing did.
+/// Returns why nothing sent before what `call` delivers, which the entry at `index` makes, if its
+/// caller is told that nothing did.
 ///
 /// `cluster` has played the calls of the entries up to this one.
 pub fn unsent_of(
@@ -32,15 +31,16 @@ pub fn unsent_of(
     cluster: &Cluster,
     entries: &[LogEntry],
     index: usize,
+    call: &LoggedCall,
     told: &CallerReply,
 ) -> Result<Option<Unsent>, AllocError>
     requires { index < length entries.now }
-    ensures { (job : Continued) (past : Past) (entry : Entry) → LeadsTo job past cluster.now → entry ≡ get_or entries.now index entry
-        → IfOk result (IsUnsentIf (is_unsent told.now) job past entries.now index entry.line.call) }
+    ensures { (job : Continued) (past : Past) → LeadsTo job past cluster.now
+        → IfOk result (IsUnsentIf (is_unsent told.now) job past entries.now index call.now) }
 {
-    if !is_unsent(told) {
-        return Ok(None);
+    if is_unsent(told) {
+        unsent_for(alloc, cluster, entries, index, call)
+    } else {
+        Ok(None)
     }
-    let entry = &entries[index];
-    unsent_for(alloc, cluster, entries, index, &entry.line.call)
 }

@@ -1,5 +1,5 @@
 -- What the call of an entry makes of the machines and of the places.
-use Rattle.std.specs.Prelude.{◌≡◌, ℕ, List, Option, Some, None, ⊤}
+use Rattle.std.specs.Prelude.{◌≡◌, ℕ, Bool, true, false, List, Option, Some, None}
 use Rattle.lease_table.specs.Tables.{Standing}
 use Rattle.job_calls.specs.declared.call.ClusterCall.{ClusterCall}
 use Rattle.job_calls.specs.declared.call.ClusterCall.TheVariants as call
@@ -19,10 +19,10 @@ use Rattle.log_trace.specs.Calls.{AreMadeAt}
 use Rattle.log_trace.specs.Lines.{IsLineReason, not_owner_at}
 
 -- a line stands for one call, as all do but those of a table that is restored and of a sample
-abbrev pub is_single : LoggedCall → Type 0
-is_single (Restore numbers) = ⊥
-is_single (Sample taken) = ⊥
-is_single _ = ⊤
+abbrev pub is_single : LoggedCall → Bool
+is_single (Restore numbers) = false
+is_single (Sample taken) = false
+is_single _ = true
 
 -- of a `serve`, the committed generation if the task does not own the key in it
 abbrev pub foreign_in : Standing → LoggedCall → Option ℕ
@@ -37,11 +37,11 @@ IsHeardBy job past _ whole = whole ≡ None
 
 -- the call of an entry was made at a place, and this is what its caller is told and why
 pub record IsMadeAt (job : Continued) (past : Past) (placed : List Placed) (place : ℕ) (c : LoggedCall) (made : MadeCall) (machines : LogMachines)
-    (places : CallPlaces) : Type 0 where
+    (kept : CallPlaces) : Type 0 where
   pub after : Past
   pub placed_after : List Placed
   pub stands : StandsFor (job_in job) past c made.reply after
   pub at : AreMadeAt place past placed after placed_after
   pub played : HavePlayed job after machines
-  pub places : ArePlaces job.tasks placed_after places
+  pub places : ArePlaces job.tasks placed_after kept
   pub reason : IsLineReason job past placed c made.reply made.reason
