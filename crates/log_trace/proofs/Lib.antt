@@ -1,0 +1,7 @@
+pub mod Giving
+pub mod Holding
+pub mod Keeping
+pub mod Made
+pub mod Playing
+pub mod Telling
+pub mod Unmoved
