@@ -193,16 +193,22 @@ async def served(caller: Caller, task: int) -> int:
     return life
 
 
-async def test_a_row_that_was_recovered_goes_back_to_a_plane_of_before(
-    store: Store, job: str, tmp_path: Path
-) -> None:
-    """The holder writes it once more as soon as the older plane beats, which takes the job over then."""
-    logs = tmp_path / "logs"
+async def recovered(store: Store, job: str, logs: Path) -> int:
+    """Serves a job, and recovers it after its plane has ended. Returns the life that this has lost."""
     async with running(store, logs, shared=True, standby=STANDBY) as (_, caller):
         caller.job = job
         await begun(caller)
         lost = await served(caller, 1)
     await recover(store, [job], watch=0)
+    return lost
+
+
+async def test_a_row_that_was_recovered_goes_back_to_a_plane_of_before(
+    store: Store, job: str, tmp_path: Path
+) -> None:
+    """The holder writes it once more as soon as the older plane beats, which takes the job over then."""
+    logs = tmp_path / "logs"
+    lost = await recovered(store, job, logs)
     assert await form_in(store, job) == AFTER_BACKUP
     async with running(store, logs, 1, True, STANDBY, row_form=PLAIN) as (_, second):
         second.job = job
@@ -231,11 +237,7 @@ async def test_a_newer_plane_takes_a_recovered_job_from_one_that_does_not_read_i
 ) -> None:
     """The older plane beats, and counts as the holder: it was that before the job was recovered."""
     logs = tmp_path / "logs"
-    async with running(store, logs, shared=True, standby=STANDBY) as (_, caller):
-        caller.job = job
-        await begun(caller)
-        lost = await served(caller, 1)
-    await recover(store, [job], watch=0)
+    lost = await recovered(store, job, logs)
     async with running(store, logs, 0, True, STANDBY, row_form=PLAIN) as (_, first):
         first.job = job
         assert (await first.get()).status == 503
