@@ -49,8 +49,8 @@ fn lines_of(
 
 /// Plays the steps of a script from its first on, and writes the trace.
 ///
-/// With a key, the trace has the stretches in which each task may serve it. The only error is out
-/// of memory.
+/// It is JSON lines, as docs/FORMATS.md has them, each ended by a line feed. With a key, the trace
+/// has the stretches in which each task may serve it. The only error is out of memory.
 pub fn trace_text(
     alloc: Global,
     job: Job,
