@@ -1,0 +1,8 @@
+pub mod Judged
+pub mod Opening
+pub mod Hinting
+pub mod Counting
+pub mod Compared
+pub mod Breaking
+pub mod Telling
+pub mod Passing

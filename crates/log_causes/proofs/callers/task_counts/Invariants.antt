@@ -1,0 +1,8 @@
+use Rattle.std.proofs.Common.{◌≡◌}
+use Rattle.log_causes.specs.declared.callers.Caller.TheVariants.{Task}
+use Rattle.log_causes.specs.Callers.{calls_where, counted, each_to, is_of}
+use Rattle.log_causes.proofs.callers.task_counts.Given as goal
+
+-- the tasks so far
+abbrev pub invariant-loop-place : goal.invariant-loop-place
+invariant-loop-place l = l.counts.items ≡ each_to (λ n. counted n (calls_where (is_of (Task n)) l.entries)) l.place
