@@ -52,12 +52,12 @@ unsent_told job past number most None answer cluster none played =
 unsent_told job past number most (Some c) answer cluster none played = absurd (cc)
 
 module _ (job : Continued) (past : Past) (task at : ℕ) (g : BareGrant) where
-  abbrev hears : Bool → ClusterReply
+  abbrev pub hears : Bool → ClusterReply
   hears known =
       by_actor task job.tasks (unless (when (not known) error.NotSent)
       (from_machine error.Slicelet reply.Task (slicelet_step (history task past) (Hear (whole_grant past g) at))))
 
-  unknown_grant : IsRun job past
+  pub unknown_grant : IsRun job past
       → ((policy : Terms) (calls : List AnsweredTableCall) (place : ℕ) → IsTableRun policy calls → grant_numbered (place + 1) (grants_sent calls) ≡ slice_get (grants_sent calls) place)
       → ((calls : List AnsweredTableCall) (number : ℕ) (grant : Grant) → grant_numbered number (grants_sent calls) ≡ Some grant → IsSent calls grant × (grant.number ≡ number))
       → known_grant job.forgotten past g.number ≡ None → knows_grant job.forgotten past (whole_grant past g) ≡ false

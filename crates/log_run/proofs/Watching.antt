@@ -102,7 +102,7 @@ module _ (skew earlier : ℕ) (entries : List LogEntry) (i : ℕ) (entry : LogEn
       ap readings_of (take_more entries i entry low ∙ ap (λ (e : LogEntry). take i entries ++ e ∷ []) (sym here))
       ∙ ap (map (λ (e : LogEntry). reading_in e.line.call)) (reverse-append (take i entries) (entry ∷ []))
 
-  one_more : readings_after earlier (take (i + 1) entries) ≡ reading_in entry.line.call ∷ readings_after earlier (take i entries)
+  pub one_more : readings_after earlier (take (i + 1) entries) ≡ reading_in entry.line.call ∷ readings_after earlier (take i entries)
   one_more = ap (λ (rs : List Reading). rs ++ TableClock earlier ∷ []) one_more_read
 
   later : (place : Option ℕ) (at : ℕ) → IsReadBefore earlier entries i place at → IsReadBefore earlier entries (i + 1) place at

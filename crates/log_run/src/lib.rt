@@ -19,6 +19,6 @@ pub use late::Late;
 pub use laws::{days_law, drift_law};
 pub use log_machines::LogMachines;
 pub use outcome::Outcome;
-pub use playing::{answer, held_by_asked, tell};
+pub use playing::{answer, held_by_asked, play, tell};
 pub use restoring::restore_fault;
 pub use start::Start;

@@ -63,8 +63,11 @@ fn learn(
     machines.play(&ClusterCall::Clerk { clerk, call })
 }
 
-// Plays a logged call, and returns the machines' reply.
-fn play(machines: &mut LogMachines, call: &LoggedCall) -> Result<ClusterReply, AllocError>
+/// Plays the call that a line tells, and returns the machines' reply.
+///
+/// Of a table that is restored it plays the restart alone, and of a sample a call that only asks:
+/// [`tell`] plays what those lines stand for.
+pub fn play(machines: &mut LogMachines, call: &LoggedCall) -> Result<ClusterReply, AllocError>
     ensures { (job : Continued) (past : Past) → HavePlayed job past machines.old
         → IfOk result (λ answer. HavePlayed job (event (call_after past call.now) answer ∷ past) machines.new) }
 {

@@ -1,0 +1,6 @@
+pub mod Calls
+pub mod Lines
+pub mod Tracers
+pub mod Traces
+pub mod Serving
+pub mod internals
