@@ -1,5 +1,5 @@
 -- What is kept of the calls after those of one more line.
-use Rattle.std.proofs.Common.{◌≡◌, ◌∙◌, ℕ, ◌+◌, ◌^◌, ◌<◌, ◌≤◌, Bool, true, false, List, [], ◌∷◌, ◌++◌, length, get_or, take, reverse, refl, sym, ap, subst, arith}
+use Rattle.std.proofs.Common.{◌≡◌, ◌∙◌, ℕ, ◌+◌, ◌^◌, ◌<◌, ◌≤◌, Bool, true, false, List, [], ◌∷◌, ◌++◌, length, get_or, take, reverse, refl, sym, subst, arith}
 use Rattle.std.proofs.lemmas.List.{length-reverse, length-take-le}
 use Rattle.std.specs.Prelude.{◌==◌, Option, Some, None, Result, OnOk, if◌then◌else◌}
 use Rattle.std.specs.List.{AllByRecursion}
@@ -9,7 +9,7 @@ use Rattle.job_calls.specs.Jobs.{Job}
 use Rattle.job_calls.specs.declared.call.ClusterCall.{ClusterCall}
 use Rattle.job_calls.specs.declared.call.ClusterCall.TheVariants as call
 use Rattle.job_calls.specs.declared.reply.ClusterReply.{ClusterReply}
-use Rattle.cluster.specs.Pasts.{Event, Past, event, is_accepted, task_calls, with_task_call}
+use Rattle.cluster.specs.Pasts.{Past, event, is_accepted, task_calls}
 use Rattle.cluster.specs.continued.Jobs.{from_start}
 use Rattle.stretches.specs.declared.job_stretches.JobStretches.{JobStretches}
 use Rattle.stretches.specs.declared.stretch.Stretch.{Stretch}

@@ -1,37 +1,34 @@
 -- What the calls of one entry make of the machines and of the places.
-use Rattle.std.proofs.Common.{◌≡◌, ◌∙◌, ℕ, Bool, true, false, List, [], ◌∷◌, ◌++◌, map, refl, sym, ap, subst}
-use Rattle.std.specs.Prelude.{Option, Some, None, if◌then◌else◌}
+use Rattle.std.proofs.Common.{◌≡◌, ◌∙◌, ℕ, Bool, true, false, List, [], ◌∷◌, ◌++◌, map, refl, ap}
+use Rattle.std.specs.Prelude.{Option, Some, None}
 use Rattle.machines.specs.Numbers.{is_within}
 use Rattle.job_calls.specs.Jobs.{Job}
-use Rattle.job_calls.specs.declared.call.ClusterCall.{ClusterCall}
 use Rattle.job_calls.specs.declared.call.ClusterCall.TheVariants as call
-use Rattle.job_calls.specs.declared.error.ClusterError.TheVariants as error
 use Rattle.job_calls.specs.declared.reply.ClusterReply.{ClusterReply}
 use Rattle.job_calls.specs.declared.reply.ClusterReply.TheVariants as reply
 use Rattle.grants.specs.declared.slicelet_call.SliceletCall.TheVariants.{Hear}
 use Rattle.grants.specs.declared.table_call.TableCall.TheVariants as table_call
-use Rattle.cluster.specs.Pasts.{Event, Past, event, is_accepted}
+use Rattle.cluster.specs.Pasts.{Past, event, is_accepted}
 use Rattle.cluster.specs.continued.Deliveries.{knows_grant}
 use Rattle.cluster.specs.continued.Jobs.{Continued}
 use Rattle.cluster.specs.continued.Runs.{IsReply}
 use Rattle.reasons.specs.declared.places.CallPlaces.{CallPlaces}
 use Rattle.reasons.specs.declared.reason.Reason.{Reason}
 use Rattle.reasons.specs.Placed.{ArePlaces, Placed}
-use Rattle.reasons.specs.Reasons.{IsReason}
 use Rattle.log_line.specs.declared.line.BareGrant.{BareGrant}
 use Rattle.log_line.specs.declared.line.LoggedCall.{LoggedCall}
 use Rattle.log_line.specs.declared.line.LoggedCall.TheVariants.{Whole, HearBare, LearnBare, Restore, Sample}
 use Rattle.log_line.specs.declared.restored.KeptNumbers.{KeptNumbers}
 use Rattle.log_line.specs.declared.restored.RestoreFault.{RestoreFault}
 use Rattle.log_line.specs.declared.told.CallerReply.{CallerReply}
-use Rattle.log_run.specs.Calls.{call_after, told_after, whole_grant}
+use Rattle.log_run.specs.Calls.{whole_grant}
 use Rattle.log_run.specs.Played.{IsCalled, StandsFor}
 use Rattle.log_run.specs.Restores.{IsTaken}
 use Rattle.log_run.proofs.Unknown.{hears, refused_so, why_unsent}
 use Rattle.log_trace.specs.Calls.{AreMadeAt, placed_at}
 use Rattle.log_trace.specs.Lines.{IsAnsweredFor, IsLineReason}
 use Rattle.log_trace.specs.internals.Making.{is_single}
-use Rattle.log_trace.proofs.Unmoved.{nobody_places, refused_places}
+use Rattle.log_trace.proofs.Unmoved.{nobody_places}
 
 -- ONE CALL
 

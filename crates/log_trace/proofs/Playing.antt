@@ -1,11 +1,10 @@
 -- Entries that a tracer plays one after another.
-use Rattle.std.proofs.Common.{◌≡◌, ◌∙◌, ℕ, ◌+◌, ◌<◌, max, List, [], ◌∷◌, ◌++◌, length, get_or, take, reverse, refl, sym, ap, subst, arith}
+use Rattle.std.proofs.Common.{◌≡◌, ◌∙◌, ℕ, ◌+◌, ◌<◌, max, List, [], ◌∷◌, ◌++◌, length, get_or, take, reverse, sym, ap, subst, arith}
 use Rattle.std.specs.Prelude.{Option, Some, None, slice_get}
 use Rattle.std.proofs.lemmas.Option.{get_or_from_slice_get}
 use Rattle.std.proofs.lemmas.List.{length-reverse, length-take-le, reverse-append}
 use Rattle.job_calls.specs.Jobs.{Job}
 use Rattle.job_calls.specs.declared.snapshot.ClusterSnapshot.{ClusterSnapshot}
-use Rattle.job_calls.specs.declared.timing.Reading.{Reading}
 use Rattle.job_calls.specs.declared.timing.Reading.TheVariants.{TableClock}
 use Rattle.cluster.specs.continued.Jobs.{Continued, job_in}
 use Rattle.cluster.specs.Pasts.{Past}

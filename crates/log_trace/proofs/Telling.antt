@@ -1,9 +1,8 @@
 -- Which lines a trace tells, one more at a time.
-use Rattle.std.proofs.Common.{◌≡◌, ◌∙◌, ◌≤◌, Bool, true, false, not, List, [], ◌∷◌, ◌++◌, length, refl, sym, ap, arith}
+use Rattle.std.proofs.Common.{◌≡◌, ◌≤◌, Bool, true, false, not, List, [], ◌∷◌, ◌++◌, length, refl, ap, arith}
 use Rattle.std.specs.Prelude.{if◌then◌else◌}
 use Rattle.log_trace.specs.declared.line.LogLine.{LogLine}
-use Rattle.log_trace.specs.declared.trace.LogTrace.{LogTrace}
-use Rattle.log_trace.specs.Traces.{AreToldIn, right_lines, wrong_lines}
+use Rattle.log_trace.specs.Traces.{right_lines, wrong_lines}
 
 module _ (next : LogLine) where
   -- a right line after lines that are all right

@@ -1,15 +1,13 @@
 -- Calls that leave the places of tasks as they are.
-use Rattle.std.proofs.Common.{◌≡◌, ◌∙◌, ℕ, ◌+◌, ◌==◌, Bool, true, false, List, [], ◌∷◌, ◌++◌, map, refl, sym, ap, subst}
+use Rattle.std.proofs.Common.{◌≡◌, ◌∙◌, ℕ, ◌+◌, ◌==◌, Bool, true, false, List, [], ◌∷◌, ◌++◌, map, refl, sym, subst}
 use Rattle.std.specs.Prelude.{◌&&◌}
 use Rattle.std.specs.List.{AllByRecursion}
 use Rattle.lease_rule.specs.declared.lease.Kind.{Kind}
 use Rattle.lease_rule.specs.declared.lease.Kind.TheVariants.{Guard, Bridge}
 use Rattle.job_calls.specs.declared.call.ClusterCall.{ClusterCall}
 use Rattle.job_calls.specs.declared.call.ClusterCall.TheVariants as call
-use Rattle.job_calls.specs.declared.reply.ClusterReply.{ClusterReply}
 use Rattle.cluster.specs.Pasts.{Event, event, is_accepted}
 use Rattle.reasons.specs.declared.places.CallPlaces.{CallPlaces}
-use Rattle.reasons.specs.declared.places.TaskPlaces.{TaskPlaces}
 use Rattle.reasons.specs.Placed.{ArePlaces, Placed, accepted_in, heard_in, is_hear_by, places_of, with_accepted}
 use Rattle.log_run.specs.Restores.{grant_to_nobody}
 use Rattle.log_trace.specs.Calls.{placed_at}

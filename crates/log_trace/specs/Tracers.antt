@@ -1,5 +1,5 @@
 -- What a tracer knows of the entries that it played.
-use Rattle.std.specs.Prelude.{◌≡◌, ℕ, ◌+◌, List, reverse, take, Option, Some, slice_get}
+use Rattle.std.specs.Prelude.{◌≡◌, ℕ, ◌+◌, List, reverse, take, Some, slice_get}
 use Rattle.cluster.specs.Pasts.{Past}
 use Rattle.cluster.specs.continued.Jobs.{Continued}
 use Rattle.reasons.specs.Placed.{Placed, ArePlaces}

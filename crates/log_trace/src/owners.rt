@@ -1,6 +1,6 @@
 //! Requests that were served by no owner.
 
-ghost use Rattle.std.specs.Prelude.{◌≡◌, Option, ℕ};
+ghost use Rattle.std.specs.Prelude.{◌≡◌, Option};
 ghost use Rattle.cluster.specs.Pasts.{Past, standing};
 ghost use Rattle.cluster.specs.continued.Clusters.{LeadsTo};
 ghost use Rattle.cluster.specs.continued.Jobs.{Continued};

@@ -1,6 +1,6 @@
 //! The trace of a log.
 
-ghost use Rattle.std.specs.Prelude.{◌≡◌, ◌∷◌, ◌++◌, [], IfOk, List, OnOk};
+ghost use Rattle.std.specs.Prelude.{◌∷◌, ◌++◌, [], IfOk, List, OnOk};
 ghost use Rattle.cluster.specs.continued.Jobs.{Continued};
 ghost use Rattle.log_run.specs.Starts.{Begins};
 ghost use Rattle.log_trace.specs.Traces.{AreToldIn, IsTraceOf};

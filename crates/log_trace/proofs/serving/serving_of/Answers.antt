@@ -1,4 +1,4 @@
-use Rattle.std.proofs.Common.{◌≡◌, ◌+◌, ◌≤◌, List, [], length, refl, reverse, subst, take, arith}
+use Rattle.std.proofs.Common.{◌≤◌, List, [], length, refl, reverse, subst, arith}
 use Rattle.std.proofs.lemmas.List.{take_all}
 use Rattle.cluster.specs.continued.Jobs.{from_start}
 use Rattle.log_line.specs.declared.entry.LogEntry.{LogEntry}

@@ -1,5 +1,4 @@
-use Rattle.std.proofs.Common.{◌≡◌, ◌∙◌, ◌+◌, [], ◌∷◌, ◌++◌, take, refl, inl, inr, sym, subst, arith, rules}
-use Rattle.std.specs.Prelude.{◌==◌}
+use Rattle.std.proofs.Common.{◌+◌, [], ◌∷◌, ◌++◌, refl, inl, inr, arith, rules}
 use Rattle.log_trace.proofs.Playing.{lines_more_at}
 use Rattle.log_trace.proofs.trace.log_trace_of.Goals as goal
 

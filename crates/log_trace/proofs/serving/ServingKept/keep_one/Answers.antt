@@ -1,4 +1,4 @@
-use Rattle.std.proofs.Common.{◌≡◌, ◌∙◌, ◌∷◌, refl}
+use Rattle.std.proofs.Common.{◌∷◌, refl}
 use Rattle.cluster.specs.Pasts.{event}
 use Rattle.cluster.specs.continued.Jobs.{from_start}
 use Rattle.log_run.specs.Calls.{call_after, told_after}

@@ -5,8 +5,8 @@ use Rattle.cluster.specs.Clusters.{LeadsTo}
 use Rattle.cluster.specs.Pasts.{event}
 use Rattle.cluster.specs.continued.Jobs.{from_start}
 use Rattle.log_line.specs.declared.line.LoggedCall.{LoggedCall}
-use Rattle.log_line.specs.declared.line.LoggedCall.TheVariants.{HearBare, LearnBare, Whole}
-use Rattle.log_run.specs.Calls.{call_after, whole_grant, whole_slicing}
+use Rattle.log_line.specs.declared.line.LoggedCall.TheVariants.{HearBare, LearnBare}
+use Rattle.log_run.specs.Calls.{call_after, whole_grant}
 use Rattle.log_run.proofs.Unknown.{unknown_grant}
 use Rattle.grants.specs.declared.slicelet_call.SliceletCall.TheVariants.{Hear}
 use Rattle.log_trace.specs.internals.Making.{IsHeardBy}

@@ -1,14 +1,12 @@
-use Rattle.std.proofs.Common.{◌≡◌, ◌∙◌, ℕ, List, ◌+◌, ◌∷◌, take, refl, sym, ap, subst}
+use Rattle.std.proofs.Common.{◌∙◌, ℕ, List, ◌∷◌, take, refl, sym, ap, subst}
 use Rattle.job_calls.specs.declared.timing.Reading.{Reading}
 use Rattle.cluster.specs.Pasts.{readings, standing}
 use Rattle.cluster.specs.Timing.{greatest_reading}
 use Rattle.reasons.specs.Readings.{IsGreatestOf}
-use Rattle.log_line.specs.declared.entry.LogEntry.{LogEntry}
-use Rattle.log_line.specs.Calls.{reading_in}
 use Rattle.log_line.specs.Told.{is_worded}
 use Rattle.log_run.proofs.Places.{at_place}
 use Rattle.log_run.proofs.Watching as watching
-use Rattle.log_trace.specs.Lines.{IsTakenFirst, IsUntimelyAt, broken_by, readings_before}
+use Rattle.log_trace.specs.Lines.{IsUntimelyAt, readings_before}
 use Rattle.log_trace.proofs.Playing.{calls_more}
 use Rattle.log_trace.proofs.tracer.LogTracer.next.Goals as goal
 
