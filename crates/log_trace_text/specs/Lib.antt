@@ -1,0 +1,5 @@
+pub mod Places
+pub mod Unsent
+pub mod Calls
+pub mod Faults
+pub mod Texts
