@@ -1,4 +1,15 @@
-"""Traces for tests: of scripts by `hourstable trace`, and of logs by its stand-in."""
+"""Traces for tests: of scripts by `hourstable trace`, and of logs by its stand-in; and what is to be shown of them.
+
+tests/stored/shown has what hourstable-show is to write, as the proved programs of earlier versions wrote it:
+
+  scripts.txt         scripts of crates/worked_examples/data, explained with numbers
+  scripts/, random/   pictures of scripts, NAME.svg with the clerks or NAME.KEY.svg; scripts of random steps
+  commands.jsonl      command lines in the folder crates/command_examples/data, with what they write
+  bugs.txt            reports with --all of the logs of examples/audit/bugs; bugs-explained.txt and bugs-around.txt the
+                      calls of some, and bugs/ their pictures
+
+In a text file a line `== NAME` is above each text.
+"""
 
 from __future__ import annotations
 
@@ -19,6 +30,8 @@ from stand_in.tasks import Members
 TOP = Path(__file__).resolve().parents[2]
 SCRIPTS = TOP / "crates/worked_examples/data"
 COMMANDS = TOP / "crates/command_examples/data"
+SHOWN = TOP / "tests/stored/shown"
+NAME = re.compile(r"^== (.*)\n", re.MULTILINE)
 TORN = re.compile(r"^hourstable: (.*):(\d+): a last line without its end was left out$", re.MULTILINE)
 SECONDS = 120
 
@@ -30,9 +43,15 @@ def proved(*words: str, cwd: Path = TOP, given: bytes = b"") -> "subprocess.Comp
     )
 
 
-def written(*words: str, cwd: Path = TOP) -> str:
-    """Returns what the proved program writes."""
-    return proved(*words, cwd=cwd).stdout.decode()
+def stored(name: str) -> str:
+    """Returns the text of a stored file."""
+    return (SHOWN / name).read_bytes().decode()
+
+
+def stored_texts(name: str) -> dict[str, str]:
+    """Returns the texts of a stored file by their names."""
+    found = NAME.split(stored(name))
+    return dict(zip(found[1::2], found[2::2], strict=True))
 
 
 def read(lines: Iterable[Members]) -> trace.Trace:

@@ -1,4 +1,4 @@
-"""What hourstable-show writes has the bytes that the proved `explain`, `timeline` and `audit` write."""
+"""What hourstable-show writes has the bytes that are stored in tests/stored/shown."""
 
 import json
 import re
@@ -12,20 +12,19 @@ import needed
 
 needed.library()
 
-import random_scripts  # noqa: E402
+from hourstable.library import slice_key  # noqa: E402
 from hourstable.show import pictures, report, sentences, trace, views  # noqa: E402
 from showing import (  # noqa: E402
-    COMMANDS, SCRIPTS, TOP, keys_of, of_logs, of_script, proved, read, show, stand_in, written,
+    COMMANDS, SCRIPTS, SHOWN, TOP, of_logs, of_script, read, show, stand_in, stored, stored_texts,
 )
 from stand_in.tasks import Members  # noqa: E402
 
 PICTURE = re.compile(r"<!-- picture: timeline (.*) < (\S+) -->\n!\[[^\]]*\]\((\S+)\)")
-BUGS = (  # of examples/audit: each kind of cause and hint
-    "takes-a-held-lease", "commits-over-bridges", "free-forgets", "answers-before-it-stores", "two-tables",
-    "hears-again-after-a-release", "serves-at-the-deadline", "handle-survives-a-gap", "open-not-logged",
-    "ticket-drawn-twice", "task-clock-stops", "right-move",
-)
-LEFT_OUT = ("--from", "--until", "--help")  # the stand-in goes on from no state
+EXPLAINED = stored_texts("scripts.txt")
+LINES = {it["name"]: it for it in map(json.loads, stored("commands.jsonl").splitlines())}
+BUGS = stored_texts("bugs-explained.txt")  # of examples/audit: each kind of cause and hint
+NUMBER = re.compile(r"^\d+ \w+: ", re.MULTILINE)
+HELLO = slice_key(b"hello")
 
 
 def played() -> list[str]:
@@ -33,46 +32,37 @@ def played() -> list[str]:
     return sorted(it.stem for it in SCRIPTS.glob("*.json") if (SCRIPTS / f"{it.stem}.status").read_text() == "0\n")
 
 
-def stored(*first: str) -> list[str]:
-    """Returns the stored command lines that begin with one of these words."""
-    names = (COMMANDS / "names").read_text().split()
-    words = {name: (COMMANDS / f"{name}.words").read_text().splitlines() for name in names}
-    return [name for name, it in words.items() if it and it[0] in first and not set(it) & set(LEFT_OUT)]
+def drawn(folder: str) -> list[str]:
+    """Returns the names of stored pictures."""
+    return sorted(it.stem for it in (SHOWN / folder).glob("*.svg"))
 
 
 # SCRIPTS
 
 
 def test_the_stored_scripts_are_many() -> None:
-    assert len(played()) >= 55
+    assert len(played()) >= 55 and len(drawn("scripts")) >= 49
 
 
 @pytest.mark.parametrize("name", played())
 def test_a_script_is_explained(name: str) -> None:
-    path = SCRIPTS / f"{name}.json"
-    found = read(of_script(path))
-    assert sentences.explained(found, numbered=False) == written("explain", str(path))
-    assert sentences.explained(found, numbered=True) == written("explain", "--number", str(path))
+    found = read(of_script(SCRIPTS / f"{name}.json"))
+    assert sentences.explained(found, numbered=True) == EXPLAINED[name]
+    assert sentences.explained(found, numbered=False) == NUMBER.sub("", EXPLAINED[name])
 
 
-@pytest.mark.parametrize("name", played())
+@pytest.mark.parametrize("name", drawn("scripts"))
 def test_a_script_is_drawn(name: str) -> None:
-    path = SCRIPTS / f"{name}.json"
-    drawn = pictures.script_picture(read(of_script(path)), with_clerks=True)
-    assert drawn == written("timeline", "--clerks", str(path))
-    for key in keys_of(path)[:3]:
-        found = read(of_script(path, key))
-        assert pictures.script_picture(found, with_clerks=False) == written("timeline", f"--key={key}", str(path))
+    script, _, key = name.partition(".")
+    found = read(of_script(SCRIPTS / f"{script}.json", key or None))
+    assert pictures.script_picture(found, with_clerks=not key) == stored(f"scripts/{name}.svg")
 
 
-@pytest.mark.parametrize("seed", range(10))
-def test_a_random_script_is_explained_and_drawn(tmp_path: Path, seed: int) -> None:
-    path, key = tmp_path / "script.json", random_scripts.KEYS[seed % len(random_scripts.KEYS)]
-    path.write_text(json.dumps(random_scripts.script(seed, 250)), encoding="utf-8")
-    found = read(of_script(path, key))
-    assert sentences.explained(found, numbered=True) == written("explain", "--number", str(path))
-    drawn = pictures.script_picture(found, with_clerks=True)
-    assert drawn == written("timeline", "--clerks", f"--key={key}", str(path))
+@pytest.mark.parametrize(("name", "key"), [("1", "abc"), ("2", "k"), ("5", "abc")])
+def test_a_script_of_random_steps_is_explained_and_drawn(name: str, key: str) -> None:
+    found = read(of_script(SHOWN / f"random/{name}.json", key))
+    assert sentences.explained(found, numbered=True) == stored(f"random/{name}.txt")
+    assert pictures.script_picture(found, with_clerks=True) == stored(f"random/{name}.svg")
 
 
 def test_the_pictures_of_the_pages_are_drawn() -> None:
@@ -80,8 +70,8 @@ def test_the_pictures_of_the_pages_are_drawn() -> None:
     assert len(found) >= 5
     for words, script, picture in found:
         assert words == "--key hello"
-        drawn = pictures.script_picture(read(of_script(TOP / script, "hello")), with_clerks=False)
-        assert drawn == (TOP / "docs" / picture).read_text(encoding="utf-8"), picture
+        picture_of = pictures.script_picture(read(of_script(TOP / script, "hello")), with_clerks=False)
+        assert picture_of == (TOP / "docs" / picture).read_text(encoding="utf-8"), picture
 
 
 # COMMAND LINES
@@ -92,21 +82,21 @@ def folder(tmp_path_factory: pytest.TempPathFactory) -> Path:
     return Path(shutil.copytree(COMMANDS, tmp_path_factory.mktemp("stored") / "data"))
 
 
-def as_written(name: str) -> tuple[bytes, bytes, int]:
-    out, errors, status = ((COMMANDS / f"{name}.{it}").read_bytes() for it in ("stdout", "stderr", "status"))
-    return out, errors, int(status)
+def as_written(name: str) -> tuple[str, str, int]:
+    it = LINES[name]
+    return it.get("stdout", ""), it.get("stderr", ""), it["status"]
 
 
-def shown(folder: Path, tmp_path: Path, name: str) -> tuple[bytes, bytes, int]:
+def shown(folder: Path, tmp_path: Path, name: str) -> tuple[str, str, int]:
     """Plays a stored command line by hourstable-show. Its own messages begin with its own name."""
-    words = (COMMANDS / f"{name}.words").read_text().splitlines()
-    words[0] = {"audit": "report"}.get(words[0], words[0])
-    ran = show(stand_in(tmp_path), *words, cwd=folder, given=(COMMANDS / f"{name}.stdin").read_bytes())
-    errors = re.sub(rb"^hourstable-show: ", b"hourstable: ", ran.stderr, flags=re.MULTILINE)
-    return ran.stdout, errors, ran.returncode
+    words = LINES[name]["words"]
+    words = [{"audit": "report"}.get(words[0], words[0]), *words[1:]]
+    ran = show(stand_in(tmp_path), *words, cwd=folder, given=LINES[name].get("stdin", "").encode())
+    errors = re.sub(r"^hourstable-show: ", "hourstable: ", ran.stderr.decode(), flags=re.MULTILINE)
+    return ran.stdout.decode(), errors, ran.returncode
 
 
-@pytest.mark.parametrize("name", stored("explain", "timeline"))
+@pytest.mark.parametrize("name", [name for name, it in LINES.items() if it["words"][0] != "audit"])
 def test_a_command_line_shows_what_is_stored(folder: Path, tmp_path: Path, name: str) -> None:
     assert shown(folder, tmp_path, name) == as_written(name)
 
@@ -120,10 +110,13 @@ def test_a_command_line_reports_what_is_stored(folder: Path, tmp_path: Path, nam
 
 
 def of_files() -> list[str]:
-    """Returns the stored audits that judge files without writes to stores, which no trace tells yet."""
-    found = [it for it in stored("audit") if as_written(it)[2] < 2]
-    words = {it: (COMMANDS / f"{it}.words").read_text().splitlines()[1:] for it in found}
-    return [it for it in found if "-" not in words[it] and not any(map(has_writes, words[it]))]
+    """Returns the stored audits that judge files without writes to stores, which no trace tells yet, from the first
+    call on: the stand-in goes on from no state."""
+    found = {name: it["words"] for name, it in LINES.items() if it["words"][0] == "audit" and it["status"] < 2}
+    return [
+        name for name, words in found.items()
+        if not {"-", "--from"}.intersection(words) and not any(map(has_writes, words))
+    ]
 
 
 def has_writes(word: str) -> bool:
@@ -134,7 +127,7 @@ def has_writes(word: str) -> bool:
 
 @pytest.mark.parametrize("name", of_files())
 def test_a_report_is_what_is_stored(name: str) -> None:
-    words = (COMMANDS / f"{name}.words").read_text().splitlines()[1:]
+    words = LINES[name]["words"][1:]
     drift = None
     if "--drift" in words:
         place = words.index("--drift")
@@ -142,7 +135,7 @@ def test_a_report_is_what_is_stored(name: str) -> None:
         drift, words = (extra, per, grain), words[:place] + words[place + 2:]
     names = [it for it in words if not it.startswith("--")]
     found = read(of_logs(COMMANDS, names, drift=drift))
-    assert report.report(found, every="--all" in words) == as_written(name)[0].decode()
+    assert report.report(found, every="--all" in words) == as_written(name)[0]
 
 
 LATER = re.compile(r"steps (\d+)\ncalls table (\d+)(.*)\ntimely no: (\S+):(\d+) read (\d+), the table read (\d+)")
@@ -150,7 +143,7 @@ LATER = re.compile(r"steps (\d+)\ncalls table (\d+)(.*)\ntimely no: (\S+):(\d+) 
 
 def test_a_report_goes_on_from_earlier_logs() -> None:
     # The stand-in goes on from no state, so these are what a trace says of stored audits that do.
-    text = (COMMANDS / "audit-from-a-later-reading.stdout").read_text()
+    text = as_written("audit-from-a-later-reading")[0]
     found = LATER.search(text)
     assert found, text
     steps, table, counts, log, line, late, early = found.groups()
@@ -164,7 +157,7 @@ def test_a_report_goes_on_from_earlier_logs() -> None:
     lines: list[Members] = [{"trace": 1, "of": "logs", "job": {"skew": 10}, "logs": [log]}, {"end": end}]
     assert report.report(read(lines)) == text
     end["forgotten"] = True
-    last = (COMMANDS / "audit-from-a-state-not-sent.stdout").read_text().splitlines()[-1]
+    last = as_written("audit-from-a-state-not-sent")[0].splitlines()[-1]
     assert report.report(read(lines)).splitlines()[-1] == last
 
 
@@ -182,36 +175,43 @@ def logs(tmp_path_factory: pytest.TempPathFactory) -> Path:
 
 
 def names_in(folder: Path) -> list[str]:
-    return sorted((it.name for it in folder.glob("*.jsonl")), key=lambda it: (not it.startswith("table"), it))
+    names = (it.name for it in folder.glob("*.jsonl") if not it.name.startswith("day-"))
+    return sorted(names, key=lambda it: (not it.startswith("table"), it))
+
+
+def whole(found: trace.Trace) -> views.Window:
+    return views.Window(0, len(found.calls) + len(found.rest))
+
+
+def explained(found: trace.Trace, window: views.Window) -> str:
+    return report.explained(found, pictures.shown_calls(found, window)) + report.report(found)
 
 
 @pytest.mark.parametrize("bug", BUGS)
-def test_logs_of_a_bug_are_reported_explained_and_drawn(logs: Path, bug: str) -> None:
+def test_logs_of_a_bug_are_reported_and_explained(logs: Path, bug: str) -> None:
     folder = logs / bug
-    names = names_in(folder)
-    found = read(of_logs(folder, names))
-    assert report.report(found) == written("audit", *names, cwd=folder)
-    assert report.report(found, every=True) == written("audit", "--all", *names, cwd=folder)
-    every = views.Window(0, len(found.calls) + len(found.rest))
-    text = report.explained(found, pictures.shown_calls(found, every)) + report.report(found)
-    assert text == written("explain", "--logs", *names, cwd=folder)
-    assert pictures.log_picture(found, every, True) == written("timeline", "--clerks", "--logs", *names, cwd=folder)
+    found = read(of_logs(folder, names_in(folder)))
+    assert report.report(found, every=True) == stored_texts("bugs.txt")[bug]
+    assert explained(found, whole(found)) == BUGS[bug]
 
 
-@pytest.mark.parametrize("bug", ["serves-at-the-deadline", "task-clock-stops", "handle-survives-a-gap"])
-def test_a_key_of_logs_is_shown(logs: Path, bug: str) -> None:
+@pytest.mark.parametrize("name", drawn("bugs"))
+def test_logs_of_a_bug_are_drawn(logs: Path, name: str) -> None:
+    bug, _, key = name.partition(".")
+    folder = logs / bug
+    found = read(of_logs(folder, names_in(folder), HELLO if key else None))
+    assert pictures.log_picture(found, whole(found), not key) == stored(f"bugs/{name}.svg")
+
+
+@pytest.mark.parametrize("name", stored_texts("bugs-around.txt"))
+def test_calls_around_a_line_are_explained(logs: Path, name: str) -> None:
+    bug, _, place = name.partition(" ")
     folder = logs / bug
     names = names_in(folder)
-    key = next(it.slice_key for it in read(of_logs(folder, names)).calls if it.slice_key is not None)
-    found = read(of_logs(folder, names, key))
-    word = f"--slice-key={key}"
-    every = views.Window(0, len(found.calls) + len(found.rest))
-    assert pictures.log_picture(found, every, False) == written("timeline", word, "--logs", *names, cwd=folder)
-    place = f"{names[0]}:{found.calls[len(found.calls) // 2].place.line}"
+    found = read(of_logs(folder, names, HELLO))
     window = views.window_of(found, views.view_of(tuple(names), place, None))
     assert window is not None
-    text = report.explained(found, pictures.shown_calls(found, window)) + report.report(found)
-    assert text == written("explain", word, f"--around={place}", "--logs", *names, cwd=folder)
+    assert explained(found, window) == stored_texts("bugs-around.txt")[name]
 
 
 # OTHER TRACES
@@ -237,12 +237,13 @@ def test_lines_of_other_kinds_are_passed_over() -> None:
 
 
 def test_a_trace_is_read_from_a_pipe(tmp_path: Path) -> None:
-    path = SCRIPTS / "commit-held-until-guard-ends.json"
-    text = "".join(f"{json.dumps(it)}\n" for it in of_script(path, "hello")).encode()
+    name = "bridge-carries-a-key-over-a-change"
+    path = SCRIPTS / f"{name}.json"
+    text = "".join(f"{json.dumps(it)}\n" for it in of_script(path, "abc")).encode()
     environment = stand_in(tmp_path)
     ran = show(environment, "timeline", "--trace", "-", given=text)
     assert (ran.returncode, ran.stderr) == (0, b"")
-    assert ran.stdout == proved("timeline", "--key", "hello", str(path)).stdout
+    assert ran.stdout.decode() == stored(f"scripts/{name}.abc.svg")
     cut = show(environment, "explain", "--trace", "-", given=text[:-40])
     assert cut.returncode == 3 and cut.stderr.startswith(b"hourstable-show: the trace cannot be read: "), cut
     report_of = show(environment, "report", "--trace", "-", given=text)
@@ -259,7 +260,7 @@ def test_a_page_is_written_beside_the_report(folder: Path, tmp_path: Path) -> No
     page, environment = tmp_path / "page.html", stand_in(tmp_path)
     ran = show(environment, "timeline", f"--html={page}", "--logs", "served-at-the-deadline.jsonl", cwd=folder)
     assert (ran.returncode, ran.stdout) == (1, b"")
-    assert ran.stderr == (COMMANDS / "audit-served-at-the-deadline.stdout").read_bytes()
+    assert ran.stderr.decode() == as_written("audit-served-at-the-deadline")[0]
     assert page.read_text(encoding="utf-8").startswith("<!DOCTYPE html>")
     lost = show(environment, "timeline", f"--html={tmp_path}", "--logs", "hand-over.jsonl", cwd=folder)
     assert lost.returncode == 3 and b"Is a directory" in lost.stderr

@@ -1,12 +1,14 @@
-"""Each picture docs/NAME.svg that a page shows is what `hourstable timeline` draws, or is drawn by hand.
+"""Each picture docs/NAME.svg that a page shows is what `hourstable-show timeline` draws, or is drawn by hand.
 
 A line `<!-- picture: timeline ARGS < FILE -->` stands directly above the image, with FILE from the top of the
 repository; or `<!-- picture: by hand -->`, and then the picture has a title, a description, and colours for a dark
 page. Every picture under docs/ is shown in one of these ways by some page.
 """
+import os
 import re
 import shlex
 import subprocess
+import sys
 import xml.etree.ElementTree as ElementTree
 from collections.abc import Iterator
 
@@ -22,9 +24,12 @@ SVG = "{http://www.w3.org/2000/svg}"
 def drawn(words: list[str], script: str, built: Built) -> bytes | str:
     """The picture of a script, or why there is none."""
     try:
-        command = [str(built.program("hourstable")), *words]
+        command = [sys.executable, "-B", "-m", "hourstable.show", *words]
+        named = {"HOURSTABLE_PROGRAM": str(built.program("hourstable")), "PYTHONPATH": str(TOP / "python")}
         text = (TOP / script).read_bytes()
-        ran = subprocess.run(command, input=text, capture_output=True, timeout=120, check=False)
+        ran = subprocess.run(
+            command, input=text, capture_output=True, timeout=120, check=False, env={**os.environ, **named}
+        )
     except (OSError, subprocess.TimeoutExpired) as why:
         return str(why)
     return ran.stdout if ran.returncode == 0 else ran.stderr.decode(errors="replace").strip()
@@ -59,7 +64,7 @@ def look(page: Page, number: int, shown: str, built: Built) -> str | None:
     if not picture.is_file():
         return f"{shown}: there is no such picture"
     if made != picture.read_bytes():
-        return f"{shown}: hourstable {claim[1]} < {claim[2]} draws another picture"
+        return f"{shown}: hourstable-show {claim[1]} < {claim[2]} draws another picture"
     return None
 
 
