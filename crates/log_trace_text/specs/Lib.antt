@@ -3,3 +3,5 @@ pub mod Unsent
 pub mod Calls
 pub mod Faults
 pub mod Texts
+pub mod Endings
+pub mod Traces

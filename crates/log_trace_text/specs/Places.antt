@@ -1,13 +1,17 @@
 -- Where calls stand in the logs.
 use Rattle.std.specs.Prelude.{ℕ, List, map}
 use Rattle.serde_json.specs.Data.{Data, object}
+use Rattle.log_line.specs.declared.entry.LinePosition.{LinePosition}
 use Rattle.log_line.specs.declared.entry.LogEntry.{LogEntry}
 use Rattle.reason_values.specs.declared.place.LogLine.{LogLine}
 use Rattle.reason_values.specs.Places.{with_place}
 
 -- the line of an entry
+abbrev pub place_at : LinePosition → LogLine
+place_at at = record { log = at.file; line = at.line }
+
 abbrev pub place_of : LogEntry → LogLine
-place_of entry = record { log = entry.place.file; line = entry.place.line }
+place_of entry = place_at entry.place
 
 abbrev pub places_of : List LogEntry → List LogLine
 places_of entries = map place_of entries

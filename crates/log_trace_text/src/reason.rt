@@ -11,8 +11,8 @@ use reason_values::{LogLine, reason_json, unsent_json};
 use serde_json::Value;
 use std::alloc::{AllocError, Global};
 
-// Returns the number of the call at an index, if there is one.
-fn number_of(entries: &[LogEntry], index: Option<usize>) -> Option<u64>
+/// Returns the number of the call at an index, if there is one.
+pub(crate) fn number_of(entries: &[LogEntry], index: Option<usize>) -> Option<u64>
     ensures { result ≡ number_of entries.now index }
 {
     let index = index?;

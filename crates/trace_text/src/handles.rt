@@ -20,7 +20,7 @@ fn task_lines(alloc: Global, kept: &TaskHandles) -> Result<Vec<u8>, AllocError>
 }
 
 /// Writes the line of each handle that was given, task by task.
-pub(crate) fn handle_lines(alloc: Global, handles: &JobHandles) -> Result<Vec<u8>, AllocError>
+pub fn handle_lines(alloc: Global, handles: &JobHandles) -> Result<Vec<u8>, AllocError>
     ensures { IfOk result (λ text. text.items ≡ handle_lines handles.now) }
 {
     let mut text = Vec::new(alloc);

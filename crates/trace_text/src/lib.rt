@@ -10,4 +10,6 @@ mod readings;
 mod stretch;
 mod text;
 
+pub use handles::handle_lines;
+pub use stretch::stretch_lines;
 pub use text::trace_text;

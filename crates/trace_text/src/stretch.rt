@@ -33,7 +33,7 @@ fn lines_of_tasks(alloc: Global, tasks: &[Listed<Stretch>]) -> Result<Vec<u8>, A
 }
 
 /// Writes the lines of the stretches of each task, if there is a key.
-pub(crate) fn stretch_lines(
+pub fn stretch_lines(
     alloc: Global,
     stretches: &Option<Vec<Listed<Stretch>>>,
 ) -> Result<Vec<u8>, AllocError>
