@@ -43,9 +43,9 @@ module _ (entries : List LogEntry) (i : ℕ) (low : i < length entries) (entry :
       → IsAnswered job known.past entry.line (Some wanted) next → AreWrongRepliesTo job (take (i + 1) entries) (replies ++ wrong_at i wanted ∷ []) next
   wrong_more job replies wanted machines next known answered =
       let same : reverse (replies ++ wrong_at i wanted ∷ []) ≡ wrong_at (length (reverse (take i entries))) answered.told ∷ reverse replies =
-          reverse-append replies (wrong_at i wanted ∷ [])
-          ∙ ap (λ (index : ℕ). wrong_at index wanted ∷ reverse replies) (sym before_are)
-          ∙ ap (λ (told : CallerReply). wrong_at (length (reverse (take i entries))) told ∷ reverse replies) answered.compared.0 in
+      reverse-append replies (wrong_at i wanted ∷ [])
+      ∙ ap (λ (index : ℕ). wrong_at index wanted ∷ reverse replies) (sym before_are)
+      ∙ ap (λ (told : CallerReply). wrong_at (length (reverse (take i entries))) told ∷ reverse replies) answered.compared.0 in
       record {
         past = answered.played.after;
         are = subst (λ (es : List LogEntry). AreWrongReplies job es answered.played.after (reverse (replies ++ wrong_at i wanted ∷ [])))
