@@ -5,8 +5,8 @@ tests/stored/shown has what hourstable-show is to write, as the proved programs 
   scripts.txt         scripts of crates/worked_examples/data, explained with numbers
   scripts/, random/   pictures of scripts, NAME.svg with the clerks or NAME.KEY.svg; scripts of random steps
   commands.jsonl      command lines in the folder crates/command_examples/data, with what they write
-  bugs.txt            reports with --all of the logs of examples/audit/bugs; bugs-explained.txt and bugs-around.txt the
-                      calls of some, and bugs/ their pictures
+  bugs.txt            reports with --all of the logs of examples/audit/bugs; of some, bugs-explained.txt and
+                      bugs-around.txt have the calls, and bugs/ the pictures
 
 In a text file a line `== NAME` is above each text.
 """

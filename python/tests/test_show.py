@@ -22,7 +22,8 @@ from stand_in.tasks import Members  # noqa: E402
 PICTURE = re.compile(r"<!-- picture: timeline (.*) < (\S+) -->\n!\[[^\]]*\]\((\S+)\)")
 EXPLAINED = stored_texts("scripts.txt")
 LINES = {it["name"]: it for it in map(json.loads, stored("commands.jsonl").splitlines())}
-BUGS = stored_texts("bugs-explained.txt")  # of examples/audit: each kind of cause and hint
+REPORTS = stored_texts("bugs.txt")  # of examples/audit
+BUGS = stored_texts("bugs-explained.txt")  # each kind of cause and hint
 NUMBER = re.compile(r"^\d+ \w+: ", re.MULTILINE)
 HELLO = slice_key(b"hello")
 
@@ -166,10 +167,10 @@ def test_a_report_goes_on_from_earlier_logs() -> None:
 
 @pytest.fixture(scope="module")
 def logs(tmp_path_factory: pytest.TempPathFactory) -> Path:
-    """Plays a story on the example service for some of its bugs, and returns the folder of their logs."""
+    """Plays a story on the example service for each of its bugs, and returns the folder of their logs."""
     folder = tmp_path_factory.mktemp("logs")
-    words = [str(TOP / "examples/audit/bugs"), "--jobs", "1", "--logs", str(folder), "--hourstable", needed.program()]
-    ran = subprocess.run([*words, *BUGS], capture_output=True, text=True, check=False, timeout=300)
+    words = [str(TOP / "examples/audit/bugs"), "--jobs", "2", "--logs", str(folder), "--hourstable", needed.program()]
+    ran = subprocess.run([*words, *REPORTS], capture_output=True, text=True, check=False, timeout=300)
     assert ran.returncode == 0, ran.stdout + ran.stderr
     return folder
 
@@ -187,11 +188,21 @@ def explained(found: trace.Trace, window: views.Window) -> str:
     return report.explained(found, pictures.shown_calls(found, window)) + report.report(found)
 
 
-@pytest.mark.parametrize("bug", BUGS)
-def test_logs_of_a_bug_are_reported_and_explained(logs: Path, bug: str) -> None:
+def test_the_bugs_are_many() -> None:
+    assert len(REPORTS) >= 156
+
+
+@pytest.mark.parametrize("bug", REPORTS)
+def test_logs_of_a_bug_are_reported(logs: Path, bug: str) -> None:
     folder = logs / bug
     found = read(of_logs(folder, names_in(folder)))
-    assert report.report(found, every=True) == stored_texts("bugs.txt")[bug]
+    assert report.report(found, every=True) == REPORTS[bug]
+
+
+@pytest.mark.parametrize("bug", BUGS)
+def test_logs_of_a_bug_are_explained(logs: Path, bug: str) -> None:
+    folder = logs / bug
+    found = read(of_logs(folder, names_in(folder)))
     assert explained(found, whole(found)) == BUGS[bug]
 
 
@@ -270,17 +281,6 @@ def test_there_must_be_a_program(tmp_path: Path) -> None:
     environment = {**stand_in(tmp_path), "HOURSTABLE_PROGRAM": str(tmp_path / "nothing")}
     ran = show(environment, "explain")
     assert ran.returncode == 3 and b"No such file or directory" in ran.stderr, ran
-
-
-def test_a_program_that_traces_no_logs_is_named(tmp_path: Path) -> None:
-    environment = stand_in(tmp_path)
-    program = tmp_path / "hourstable"
-    program.write_text('#!/bin/sh\necho "Usage: hourstable trace [--key KEY] [FILE]"\n', encoding="utf-8")
-    for words in (["explain", "--logs", "it.jsonl"], ["timeline", "--logs", "it.jsonl"], ["report", "it.jsonl"]):
-        ran = show(environment, *words)
-        assert (ran.returncode, ran.stdout) == (2, b""), ran
-        assert b"error: `hourstable trace` takes no logs in this version" in ran.stderr
-        assert b"--trace FILE" in ran.stderr and b"`hourstable explain --logs`" in ran.stderr
 
 
 def test_a_call_without_its_members_is_refused(tmp_path: Path) -> None:

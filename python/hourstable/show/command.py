@@ -1,7 +1,6 @@
 """The command hourstable-show: explains and draws scripts and logs, and tells the report of an audit.
 
-It runs `hourstable trace`, or reads with --trace what that has written. Where `hourstable trace` does not take logs,
-it refuses them, and shows logs by --trace alone.
+It runs `hourstable trace`, or reads with --trace what that has written.
 """
 
 from __future__ import annotations
@@ -26,11 +25,6 @@ STATUSES = """exit statuses:
   3  reading or writing failed, or memory ran out"""
 SCRIPT = "the script, a JSON array of a job line and steps; standard input if it is - or missing"
 NO_PROGRAM = "there is no program hourstable: install the package, or set HOURSTABLE_PROGRAM"
-NO_LOGS = (
-    "error: `hourstable trace` takes no logs in this version, so logs are shown by --trace FILE alone; `hourstable"
-    " explain --logs`, `hourstable timeline --logs` and `hourstable audit` read them"
-)
-PATIENCE = 30.0  # seconds, for a program that says what it can do
 
 
 class Refusal(Exception):
@@ -58,8 +52,6 @@ def main(words: list[str] | None = None) -> int:
         return failed(why, REFUSED)
     except Unreadable as why:
         return failed(f"the trace cannot be read: {why}", FAILED)
-    except subprocess.TimeoutExpired as why:
-        return failed(f"{why.cmd[0]} does not answer", FAILED)
     except BrokenPipeError:
         sys.stdout = open("/dev/null", "w", encoding="utf-8")  # noqa: SIM115 - nothing more is written at the exit
         return FAILED
@@ -136,19 +128,6 @@ def program() -> str:
     return found
 
 
-def takes_logs() -> bool:
-    """Whether `hourstable trace` says that it takes logs. One that cannot say so is left to refuse them itself."""
-    words = [program(), "trace", "--help"]
-    ran = subprocess.run(words, stdin=subprocess.DEVNULL, capture_output=True, check=False, timeout=PATIENCE)
-    return bool(ran.returncode) or b"--logs" in ran.stdout
-
-
-def traced_logs(words: Iterable[str]) -> Trace:
-    if not takes_logs():
-        raise Refusal(NO_LOGS)
-    return traced(words)
-
-
 def traced(words: Iterable[str]) -> Trace:
     """Runs `hourstable trace` with words, and returns what it writes. What it says goes to standard error."""
     with subprocess.Popen([program(), "trace", *words], stdout=subprocess.PIPE) as running:
@@ -179,7 +158,7 @@ def trace_of(chosen: argparse.Namespace) -> Trace:
             raise Refusal("error: --trace is given alone: a trace has its key, and says what it is of")
         return from_file(chosen.trace)
     if chosen.logs:
-        return traced_logs([*keys, "--logs", *chosen.logs])
+        return traced([*keys, "--logs", *chosen.logs])
     return traced([*keys, *([chosen.file] if chosen.file else [])])
 
 
@@ -273,7 +252,7 @@ def reported(chosen: argparse.Namespace) -> int:
         trace = from_file(chosen.trace)
     elif chosen.logs:
         options = [*given("--drift", chosen.drift), *given("--from", chosen.state)]
-        trace = traced_logs(["--no-calls", *options, "--logs", *chosen.logs])
+        trace = traced(["--no-calls", *options, "--logs", *chosen.logs])
     else:
         raise Refusal("error: no log is given")
     if not trace.head.of_logs:
