@@ -354,7 +354,8 @@ async def test_a_store_that_went_back_is_recovered(store: Store, job: str, tmp_p
     async with running(store, tmp_path / "later", shared=store.several, state=tmp_path / "state") as (_, caller):
         caller.job = job
         now = await after(caller, lost, epoch)
-        assert int(now["until"]) >= Rights.read(job, stored.rights).quiet + GUARD  # what was lost has ended
+        last = int(json.loads(stored.kept)["value"]["last"])  # from where the table's clock goes on
+        assert int(now["until"]) >= last + max(GUARD, POLICY["bridge"]) + GUARD  # what was lost has ended
         for name in ("number", "generation", "until"):
             assert int(now[name]) > int(before[name]), name
 
