@@ -15,7 +15,7 @@ use Rattle.command.specs.declared.arguments.Source.TheVariants as source
 use Rattle.program_io.specs.Status.{status_after}
 use Rattle.faults.specs.Faults.{AnswerError}
 use Rattle.command.specs.Runs.{IsAnswered, IsFailed}
-use Rattle.command.specs.Endings.{IsPlayed, IsTold, EndsBy, Ends}
+use Rattle.command.specs.Endings.{IsOfShow, IsPlayed, IsTold, EndsBy, Ends}
 use Rattle.command.specs.Words.{word_faults}
 
 pub played_of : (text : ScriptText) (full rest held holds : Option (List ℕ)) (answer : Result ⊤ AnswerError)
@@ -50,25 +50,33 @@ ends_buffered words remaining reader inner after held holds code same empty room
     (words, after, subst (λ (before : Option (List ℕ)). Ends words before after held holds code) (fresh_remaining remaining reader inner same empty room) ends)
 
 -- memory ran out before anything was done
-pub without_memory : (words : List Text) (before held : Option (List ℕ)) (code : ℕ) → code ≡ 3 → Ends words before before held held code
-without_memory words before held code failed = inr (
-  keeps_itself before,
-  record {
-    why = kind.OutOfMemory;
-    reason = inl refl;
-    told = record {
-      help = λ is. absurd (elim is [ inl e ↦ cc | inr e ↦ cc ]);
-      memory = λ is. (failed, keeps_itself held);
-      refused = λ help version memory. absurd (memory refl);
-    };
-  },
+pub without_memory : (words : List Text) (before held : Option (List ℕ)) (code : ℕ) → (IsOfShow words → ⊥) → code ≡ 3 → Ends words before before held held code
+without_memory words before held code here failed = inr (
+  here,
+  inr (
+    keeps_itself before,
+    record {
+      why = kind.OutOfMemory;
+      reason = inl refl;
+      told = record {
+        help = λ is. absurd (elim is [ inl e ↦ cc | inr e ↦ cc ]);
+        memory = λ is. (failed, keeps_itself held);
+        refused = λ help version memory. absurd (memory refl);
+      };
+    },
+  ),
 )
 
 -- an error is told
-pub ends_told : (words : List Text) (before after held holds : Option (List ℕ)) (code : ℕ) (why : ErrorKind) → Keeps before after
+pub ends_told : (words : List Text) (before after held holds : Option (List ℕ)) (code : ℕ) (why : ErrorKind) → (IsOfShow words → ⊥) → Keeps before after
     → (why ≡ kind.OutOfMemory) ⊎ IsAmong why (word_faults words) → IsTold why held holds code → Ends words before after held holds code
-ends_told words before after held holds code why kept reason told = inr (kept, record { why = why; reason = reason; told = told })
+ends_told words before after held holds code why here kept reason told = inr (here, inr (kept, record { why = why; reason = reason; told = told }))
+
+-- there is no second word
+no_word : IsOfShow [] → ⊥
+no_word (inl is) = absurd (cc)
+no_word (inr is) = absurd (cc)
 
 -- before the words are known
 pub ends_unread : (before held : Option (List ℕ)) (code : ℕ) → code ≡ 3 → (words : List Text) × (rest : Option (List ℕ)) × Ends words before rest held held code
-ends_unread before held code failed = ([], before, without_memory [] before held code failed)
+ends_unread before held code failed = ([], before, without_memory [] before held code no_word failed)

@@ -8,21 +8,19 @@ use Rattle.program_io.specs.declared.line.TheConstants.{MOST_LINE_BYTES}
 use Rattle.program_io.specs.Endings.{IsCut}
 use Rattle.program_io.specs.Streams.{ReadsAll}
 use Rattle.job_calls.specs.declared.snapshot.ClusterSnapshot.{ClusterSnapshot}
-use Rattle.log_words.specs.declared.auditing.LogReport.{LogReport}
+use Rattle.audit_text.specs.declared.auditing.LogReport.{LogReport}
+use Rattle.log_trace_text.specs.declared.traced.TracedLog.{TracedLog}
 use Rattle.log_line.specs.declared.log_reader.LogReader.{LogReader}
 use Rattle.log_line.specs.declared.log_reader.ReadLog.{ReadLog}
-use Rattle.log_view.specs.declared.window.View.{View}
 use Rattle.log_line.specs.Readers.{IsReading}
 use Rattle.log_line.specs.Files.{PlacedLine, AreShort, numbered, lines_in, lines_from}
 use Rattle.command.specs.declared.arguments.AuditFlags.{AuditFlags}
-use Rattle.command.specs.declared.arguments.LogText.{LogText}
-use Rattle.command.specs.declared.arguments.ViewWords.{ViewWords}
+use Rattle.command.specs.declared.arguments.TraceFlags.{TraceFlags}
 use Rattle.command.specs.declared.log_audit.AuditError.{AuditError}
 use Rattle.command.specs.declared.log_audit.AuditError.TheVariants as audit
 use Rattle.command.specs.Audits.{AreJudged, AreLogsKept, AreLogsRead, AreLogsTaken, AreNotJudged, AreOpened, AreRead, EndsInLine, IsJudged, IsLogBytes, IsLogRead, IsLogTaken, IsNotAudited, IsOneMore, IsReport, IsSomeReport, IsStateRead, passes}
 use Rattle.command.specs.internals.{AreLogsAfter, AreNotAfter}
-use Rattle.command.specs.Shows.{AreShown, HaveNoCalls, IsNoneShown, IsShownOf}
-use Rattle.command.specs.Views.{IsViewOf}
+use Rattle.command.specs.Traces.{AreTraced, IsSomeTrace, IsTrace, IsTracing}
 use Rattle.command.proofs.Runs.{never_cut, nothing_yet}
 
 -- ONE LOG
@@ -115,8 +113,7 @@ not_judged names before after log taken (audit.Unopened name error) is = absurd 
 not_judged names before after log taken (audit.Read name) is = absurd is
 not_judged names before after log taken (audit.Unsaved name error) is = absurd is
 not_judged names before after log taken (audit.NoDrift words) is = absurd is
-not_judged names before after log taken (audit.NoView words fault) is = absurd is
-not_judged names before after log taken audit.NoCalls is = absurd is
+not_judged names before after log taken (audit.NoKey option words fault) is = absurd is
 not_judged names before after log taken audit.Write is = absurd is
 
 -- why logs that go on from a state are not judged
@@ -130,8 +127,7 @@ not_after line names before after log taken (audit.Unopened name error) is = abs
 not_after line names before after log taken (audit.Read name) is = absurd is
 not_after line names before after log taken (audit.Unsaved name error) is = absurd is
 not_after line names before after log taken (audit.NoDrift words) is = absurd is
-not_after line names before after log taken (audit.NoView words fault) is = absurd is
-not_after line names before after log taken audit.NoCalls is = absurd is
+not_after line names before after log taken (audit.NoKey option words fault) is = absurd is
 not_after line names before after log taken audit.Write is = absurd is
 
 -- a state and the logs that go on from it
@@ -157,8 +153,7 @@ module _ (state : List ℕ) (names : List (List ℕ)) (before between after : Op
   not_opened_on (audit.Read name) is = tt
   not_opened_on (audit.Unsaved name error) is = tt
   not_opened_on (audit.NoDrift words) is = tt
-  not_opened_on (audit.NoView words fault) is = tt
-  not_opened_on audit.NoCalls is = absurd is
+  not_opened_on (audit.NoKey option words fault) is = tt
   not_opened_on audit.Write is = absurd is
 
 -- logs whose lines are short were read to their ends
@@ -242,14 +237,26 @@ module _ (names : List (List ℕ)) (flags : AuditFlags) (before after held holds
     wrote = subst (λ (t : List ℕ). Appends held holds (take len t)) is written;
   }
 
--- what is shown of logs that were read to their ends, or that they have no calls such as are wanted
-module _ (names : List (List ℕ)) (text : LogText) (words : ViewWords) (before after : Option (List ℕ)) (logs : ReadLog) (kept : AreLogsKept names before after logs)
-    (view : View) (given : IsViewOf names words view) where
-  ends : AreLogsRead ReadsAll names before after kept.files
-  ends = to_their_ends names 0 before after kept.files kept.log.log.short kept.read
+-- logs that are traced were read to their ends, and their trace is written, or a first part of it
+module _ (names : List (List ℕ)) (flags : TraceFlags) (before after held holds : Option (List ℕ)) (traced : TracedLog) (text : List ℕ) (is : text ≡ traced.text.items)
+    (known : AreTraced names flags before after traced) where
+  is_trace : IsTrace names flags before after traced.is_one text
+  is_trace = record {
+    wanted = known.wanted;
+    given = known.given;
+    files = known.files;
+    earlier = known.earlier;
+    read = all_to_their_ends flags.goes_on names before after known.files known.earlier known.says.short known.read;
+    log = known.log;
+    says = known.says;
+    traced = traced;
+    is = known.is;
+    text_is = is;
+    one_is = refl;
+  }
 
-  pub are_shown : (one : Bool) (bytes : List ℕ) → IsShownOf text names logs.log view one bytes → AreShown names text words before after one bytes
-  are_shown one bytes is = record { files = kept.files; read = ends; log = logs.log; says = kept.log.log; view = view; given = given; is = is }
+  pub trace_written : Appends held holds text → IsTracing names flags before after held holds traced.is_one
+  trace_written written = record { text = text; is = is_trace; wrote = written }
 
-  pub none_shown : IsNoneShown text names logs.log view → HaveNoCalls names text words before after
-  none_shown none = record { files = kept.files; read = ends; log = logs.log; says = kept.log.log; view = view; given = given; none = none }
+  pub trace_cut : (len : ℕ) → Appends held holds (take len text) → IsCut (IsSomeTrace names flags before after) held holds
+  trace_cut len written = record { text = text; is = (traced.is_one, is_trace); len = len; wrote = written }

@@ -19,9 +19,8 @@ use Rattle.clap.specs.declared.parser.matches.MatchedArg.{MatchedArg}
 use Rattle.clap.specs.declared.parser.matches.SubCommand.{SubCommand}
 use Rattle.clap.proofs.WalkLemmas.{first_value-rows, one_text-rows, raw_values-rows}
 use Rattle.command.specs.declared.arguments.Asked.{Asked}
-use Rattle.command.specs.declared.arguments.LogText.{LogText}
 use Rattle.command.specs.declared.arguments.ScriptText.{ScriptText}
-use Rattle.command.specs.Words.{Asks, IsArgument, IsFlag, IsOfEither, IsOfLogs, IsOfScript, IsReadAs, WordsAsk, hourstable, leaf, logs_named, word_faults}
+use Rattle.command.specs.Words.{Asks, IsArgument, IsFlag, IsOfEither, IsOfLogs, IsOfScript, IsReadAs, WordsAsk, hourstable, leaf, log_option_given, logs_named, word_faults}
 
 -- ---- an argument
 
@@ -56,15 +55,15 @@ pub map_or : {N M : Type 0} (now : N → M) (a b : Option N) → option_map now 
 map_or now None b = refl
 map_or now (Some x) b = refl
 
-module _ (log_option : Option Text) (script : ScriptText) (text : LogText) (rows : List Row) (asked : Asked) {N : Type 0} (now : N → Text) where
-  pub of_logs : (logs : List N) → (length logs == 0) ≡ false → map now logs ≡ logs_named rows → IsOfLogs (map now logs) text rows asked
-      → IsOfEither (logs_named rows) log_option script text rows asked
+module _ (no_calls : Bool) (script : ScriptText) (rows : List Row) (asked : Asked) {N : Type 0} (now : N → Text) where
+  pub of_logs : (logs : List N) → (length logs == 0) ≡ false → map now logs ≡ logs_named rows → IsOfLogs (map now logs) no_calls rows asked
+      → IsOfEither (logs_named rows) no_calls script rows asked
   of_logs [] some same is = absurd (cc)
-  of_logs (log ∷ logs) some same is = subst (λ names. IsOfEither names log_option script text rows asked) same is
+  of_logs (log ∷ logs) some same is = subst (λ names. IsOfEither names no_calls script rows asked) same is
 
-  pub of_script : (logs : List N) → length logs ≡ 0 → map now logs ≡ logs_named rows → IsOfScript log_option script rows asked
-      → IsOfEither (logs_named rows) log_option script text rows asked
-  of_script [] none same is = subst (λ names. IsOfEither names log_option script text rows asked) same is
+  pub of_script : (logs : List N) → length logs ≡ 0 → map now logs ≡ logs_named rows → IsOfScript (log_option_given no_calls rows) script rows asked
+      → IsOfEither (logs_named rows) no_calls script rows asked
+  of_script [] none same is = subst (λ names. IsOfEither names no_calls script rows asked) same is
   of_script (log ∷ logs) none same is = absurd (omega (arith, none))
 
 -- ---- the command

@@ -11,12 +11,12 @@ use Rattle.cluster.specs.continued.Jobs.{Continued}
 use Rattle.job_calls.specs.declared.snapshot.ClusterSnapshot.{ClusterSnapshot}
 use Rattle.snapshot_text.specs.Lines.{first_line}
 use Rattle.snapshot_text.specs.Texts.{IsText}
-use Rattle.log_words.specs.Audits.{IsAudited}
+use Rattle.audit_text.specs.Audits.{IsAudited}
 use Rattle.log_line.specs.Readers.{IsReading, IsReadLog}
 use Rattle.log_line.specs.declared.log_reader.LogReader.{LogReader}
 use Rattle.log_line.specs.declared.log_reader.ReadLog.{ReadLog}
-use Rattle.log_words.specs.declared.auditing.AuditOptions.{AuditOptions}
-use Rattle.log_words.specs.declared.auditing.LogReport.{LogReport}
+use Rattle.audit_text.specs.declared.auditing.AuditOptions.{AuditOptions}
+use Rattle.audit_text.specs.declared.auditing.LogReport.{LogReport}
 use Rattle.log_line.specs.Files.{IsLog, IsUnread, lines_from}
 use Rattle.log_run.specs.Starts.{BeginsAt}
 use Rattle.log_line.specs.declared.log.Log.{Log}
@@ -26,16 +26,15 @@ use Rattle.command.specs.declared.log_audit.AuditError.{AuditError}
 use Rattle.command.specs.declared.log_audit.AuditError.TheVariants as audit
 use Rattle.command.specs.declared.log_audit.OpenedLogs.{OpenedLogs}
 
--- the status where logs are not judged or shown: 2 where one cannot be opened or says no calls, where the state, the drift or the view is none, and
--- where there is nothing to show; and else 3
+-- the status where logs are not judged or traced: 2 where one cannot be opened or says no calls, or where the state, the drift or the key is
+-- refused, and else 3
 abbrev pub status_of : AuditError → ℕ
 status_of (audit.Unopened name error) = 2
 status_of (audit.Refused why) = 2
 status_of (audit.BadState name why) = 2
 status_of (audit.OtherState name fault) = 2
 status_of (audit.NoDrift words) = 2
-status_of (audit.NoView words fault) = 2
-status_of audit.NoCalls = 2
+status_of (audit.NoKey option words fault) = 2
 status_of _ = 3
 
 -- the status where they are: 0 for one run, and else 1
@@ -138,10 +137,9 @@ pub record AreOpened (goes_on : Bool) (names : List (List ℕ)) (before after : 
   pub read : AreRead IsLogBytes goes_on names before after files opened.earlier
   pub log : IsReadLog (lines_from 0 files) opened.read
 
--- a log was not read: no log was refused, and nothing was to be shown or written
+-- a log was not read: no log was refused, and nothing was to be written
 abbrev pub IsNotRead : AuditError → Type 0
 IsNotRead (audit.Refused why) = ⊥
-IsNotRead audit.NoCalls = ⊥
 IsNotRead audit.Write = ⊥
 IsNotRead _ = ⊤
 
@@ -196,7 +194,6 @@ pub record SayNoCalls (goes_on : Bool) (names : List (List ℕ)) (before after :
 -- or nothing is known of them: one was not read, or memory ran out
 abbrev pub AreNotJudged : Bool → List (List ℕ) → (before after : Option (List ℕ)) → AuditError → Type 0
 AreNotJudged goes_on names before after (audit.Refused why) = SayNoCalls goes_on names before after why
-AreNotJudged goes_on names before after audit.NoCalls = ⊥
 AreNotJudged goes_on names before after audit.Write = ⊥
 AreNotJudged goes_on names before after _ = ⊤
 

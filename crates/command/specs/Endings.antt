@@ -1,5 +1,5 @@
 -- How the command ends, and the status that it exits with.
-use Rattle.std.specs.Prelude.{◌≡◌, ◌≢◌, ◌⊎◌, ℕ, List, map, Option, Result, Ok, Err, ⊤}
+use Rattle.std.specs.Prelude.{◌≡◌, ◌≢◌, ◌⊎◌, ℕ, List, map, codes, slice_get, Option, Some, Result, Ok, Err, ⊤}
 use Rattle.std.specs.Io.KnownBytes.{Appends, Keeps}
 use Rattle.clap.specs.Kinds.{IsAmong}
 use Rattle.clap.specs.Walk.{Text}
@@ -13,7 +13,7 @@ use Rattle.program_io.specs.Status.{status_after}
 use Rattle.faults.specs.Faults.{AnswerError}
 use Rattle.command.specs.Runs.{IsAnswered, IsFailed}
 use Rattle.command.specs.Audits.{IsAuditEnd}
-use Rattle.command.specs.Shows.{IsShowEnd}
+use Rattle.command.specs.Traces.{IsTraceEnd}
 use Rattle.command.specs.Sources.{IsReadFrom, IsUnopened}
 use Rattle.command.specs.Words.{WordsAsk, word_faults}
 
@@ -54,21 +54,31 @@ abbrev pub EndsBy : Request → (before after held holds : Option (List ℕ)) �
 EndsBy request before after held holds code =
     EndsWithInput request before after held holds code ⊎ IsUnopened request.source before after held holds code
 
--- words do not go together, and nothing was read or written
+-- the words are refused, and nothing was read or written
 abbrev pub IsMisused : (before after held holds : Option (List ℕ)) → ℕ → Type 0
 IsMisused before after held holds code = (code ≡ 2) × Keeps before after × Keeps held holds
 
--- how the command ends, for what was asked: a script, an audit of the logs of these names, all of them, or what is shown of such logs
+-- how the command ends, for what was asked: a script, an audit of the logs of these names, all of them, or a trace of such logs
 abbrev pub EndsFor : Asked → (before after held holds : Option (List ℕ)) → ℕ → Type 0
 EndsFor (asked.Play request) before after held holds code = EndsBy request before after held holds code
 EndsFor (asked.Audit names progress flags until) before after held holds code =
     IsAuditEnd (map (λ n. n.now) names.items) flags before after held holds code
-EndsFor (asked.Show names text view) before after held holds code =
-    IsShowEnd (map (λ n. n.now) names.items) text view before after held holds code
+EndsFor (asked.Trace names flags) before after held holds code =
+    IsTraceEnd (map (λ n. n.now) names.items) flags before after held holds code
 EndsFor (asked.Misused misuse) before after held holds code = IsMisused before after held holds code
 
--- how the command ends, for these words: it does what they ask for, or reads nothing
-abbrev pub Ends : List Text → (before after held holds : Option (List ℕ)) → ℕ → Type 0
-Ends words before after held holds code =
+-- these words ask for a subcommand of `hourstable-show`
+abbrev pub IsOfShow : List Text → Type 0
+IsOfShow words = (slice_get words 1 ≡ Some (codes "explain")) ⊎ (slice_get words 1 ≡ Some (codes "timeline"))
+
+-- how the command ends, for other words: it does what they ask for, or reads nothing
+abbrev pub EndsHere : List Text → (before after held holds : Option (List ℕ)) → ℕ → Type 0
+EndsHere words before after held holds code =
     ((asked : Asked) × WordsAsk words asked × EndsFor asked before after held holds code)
     ⊎ (Keeps before after × IsWithoutInput words held holds code)
+
+-- how the command ends, for these words
+abbrev pub Ends : List Text → (before after held holds : Option (List ℕ)) → ℕ → Type 0
+Ends words before after held holds code =
+    (IsOfShow words × IsMisused before after held holds code)
+    ⊎ ((IsOfShow words → ⊥) × EndsHere words before after held holds code)

@@ -1,5 +1,5 @@
 -- What `hourstable run` writes for what it reads.
-use Rattle.std.specs.Prelude.{◌≡◌, ◌⊎◌, ℕ, suc, List, [], ◌∷◌, ◌++◌, Bool, codes, decimal, Option, option_map, ⊤}
+use Rattle.std.specs.Prelude.{◌≡◌, ◌⊎◌, ℕ, suc, List, [], ◌∷◌, ◌++◌, Bool, codes, decimal, Option, option_map}
 use Rattle.std.specs.Global.{Vec}
 use Rattle.serde_json.specs.Data.{Data}
 use Rattle.world.specs.declared.step.Step.{Step}
@@ -15,8 +15,7 @@ use Rattle.service.specs.Service.{SaysShown, IsRefusedFor}
 use Rattle.faults.specs.declared.script_fault.ScriptFault.{ScriptFault}
 use Rattle.faults.specs.Faults.{AnswerError, refusals}
 use Rattle.diagnosis.specs.Faults.{refusals_of}
-use Rattle.explain.specs.StepWords.{step_word}
-use Rattle.explain.specs.Texts.{IsExplainedText}
+use Rattle.call_values.specs.Words.{step_word}
 use Rattle.trace_text.specs.Texts.{IsTraceText}
 use Rattle.command.specs.declared.arguments.ScriptText.{ScriptText}
 use Rattle.command.specs.declared.arguments.ScriptText.TheVariants as show
@@ -40,13 +39,10 @@ pub record IsShownNumbered (script : Script) (text : List ℕ) : Type 0 where
   pub output : IsOutput script plain
   pub lines : text ≡ numbered_text script.steps output.replies output.timely
 
--- what is written of a script: the text with numbers or without, or with reasons, with numbers or without; or its trace;
--- of a picture only the stretches are said, where they are found
+-- what is written of a script: the text without numbers or with them, or its trace
 abbrev pub IsShown : ScriptText → Script → List ℕ → Type 0
 IsShown show.Lines script text = IsOutput script text
 IsShown show.Numbered script text = IsShownNumbered script text
-IsShown (show.Explained numbered) script text = IsExplainedText numbered script text
-IsShown (show.Picture key clerks) script text = ⊤
 IsShown (show.Traced key) script text = IsTraceText script.job (option_map (λ k. k.now) key) script.steps text
 
 -- a value was read, which is no script, and these are its faults

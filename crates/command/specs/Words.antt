@@ -1,5 +1,5 @@
 -- What the words of a command line ask for.
-use Rattle.std.specs.Prelude.{◌≡◌, ◌≢◌, ◌⊎◌, Bool, true, false, List, [], ◌∷◌, ◌++◌, map, codes, Option, Some, None, is_some, MatchOption, option_map, unwrap_or, if◌then◌else◌}
+use Rattle.std.specs.Prelude.{◌≡◌, ◌≢◌, ◌⊎◌, Bool, true, false, not, List, [], ◌∷◌, ◌++◌, map, codes, Option, Some, None, is_some, MatchOption, option_map, unwrap_or, if◌then◌else◌}
 use Rattle.std.specs.Option.{option_or}
 use Rattle.clap.specs.Faults.{fault_of}
 use Rattle.clap.specs.Kinds.{Kinds}
@@ -12,14 +12,12 @@ use Rattle.clap.specs.declared.builder.command.Command.TheViews.{out-Command}
 use Rattle.clap.specs.declared.builder.action.ArgAction.TheVariants.{Append, Set, SetTrue}
 use Rattle.command.specs.declared.arguments.Asked.{Asked}
 use Rattle.command.specs.declared.arguments.Asked.TheVariants as asked
-use Rattle.command.specs.declared.arguments.LogText.{LogText}
-use Rattle.command.specs.declared.arguments.LogText.TheVariants as logged
 use Rattle.command.specs.declared.arguments.Misuse.TheVariants as misuse
 use Rattle.command.specs.declared.arguments.ScriptText.{ScriptText}
 use Rattle.command.specs.declared.arguments.ScriptText.TheVariants as show
 use Rattle.command.specs.declared.arguments.Source.{Source}
 use Rattle.command.specs.declared.arguments.Source.TheVariants as source
-use Rattle.command.specs.declared.arguments.ViewWords.{ViewWords}
+use Rattle.command.specs.declared.arguments.TraceFlags.{TraceFlags}
 
 -- ---- the subcommands, with their options and arguments
 
@@ -70,43 +68,30 @@ audit_words = subcommand (codes "audit") (flag (codes "progress") ∷ flag (code
     ∷ option (codes "from") ∷ option (codes "until") ∷ logs ∷ [])
 
 -- `--logs LOG..`, one or more, which may be left out
-abbrev pub shown_logs : Rule
-shown_logs = record (new_rule (codes "logs")) {
+abbrev pub traced_logs : Rule
+traced_logs = record (new_rule (codes "logs")) {
   long = Some (codes "logs");
   action = Some Append;
   range = Some (record { start_inclusive = 1; end_inclusive = usize_max });
   value_names = 1;
 }
 
--- what says which logs are shown, and which of their calls
-abbrev pub view_rules : List Rule
-view_rules = shown_logs ∷ option (codes "around") ∷ option (codes "readings") ∷ option (codes "key") ∷ option (codes "slice-key") ∷ []
+-- what says which logs are traced, and how
+abbrev pub log_rules : List Rule
+log_rules = traced_logs ∷ flag (codes "no-calls") ∷ option (codes "drift") ∷ option (codes "from") ∷ option (codes "slice-key") ∷ []
 
--- `explain` and `timeline`, first before the logs
-abbrev pub explain_flags : Shape
-explain_flags = subcommand (codes "explain") (flag (codes "number") ∷ [])
-
-abbrev pub explain_words : Shape
-explain_words = subcommand (codes "explain") ((flag (codes "number") ∷ view_rules) ++ file ∷ [])
-
-abbrev pub timeline_flags : Shape
-timeline_flags = subcommand (codes "timeline") (flag (codes "clerks") ∷ [])
-
-abbrev pub timeline_words : Shape
-timeline_words = subcommand (codes "timeline") ((flag (codes "clerks") ∷ view_rules) ++ file ∷ [])
-
--- `trace`, first before the script
+-- `trace`, first before the logs
 abbrev pub trace_key : Shape
 trace_key = subcommand (codes "trace") (option (codes "key") ∷ [])
 
 abbrev pub trace_words : Shape
-trace_words = subcommand (codes "trace") (option (codes "key") ∷ file ∷ [])
+trace_words = subcommand (codes "trace") ((option (codes "key") ∷ log_rules) ++ file ∷ [])
 
 -- the command: one of these subcommands must be named
 abbrev pub hourstable : App
 hourstable = record {
   top = record (new_shape (codes "hourstable")) { is_leaf = false; has_version = true; subcommand_required = true };
-  subs = run_words ∷ audit_words ∷ explain_words ∷ timeline_words ∷ trace_words ∷ [];
+  subs = run_words ∷ audit_words ∷ trace_words ∷ [];
 }
 
 -- ---- what was given to a subcommand: a row for each option and argument
@@ -136,10 +121,15 @@ AsksRun rows asked = (number : Bool) × IsFlag (codes "number") rows number
 abbrev pub option_given : Text → List Row → Option Text
 option_given name rows = option_map (λ value. name) (first_of name rows)
 
--- the first that was given of the options that say which calls of logs are shown
-abbrev pub log_option_given : List Row → Option Text
-log_option_given rows =
-    option_or (option_or (option_given (codes "around") rows) (option_given (codes "readings") rows)) (option_given (codes "slice-key") rows)
+-- the name of a flag, where it was given
+abbrev pub flag_given : Text → Bool → Option Text
+flag_given name given = if given then Some name else None
+
+-- the first that was given of the options that are for logs
+abbrev pub log_option_given : Bool → List Row → Option Text
+log_option_given no_calls rows =
+    option_or (option_or (option_or (flag_given (codes "no-calls") no_calls) (option_given (codes "drift") rows)) (option_given (codes "from") rows))
+    (option_given (codes "slice-key") rows)
 
 -- nothing is done: this option is for logs
 abbrev pub IsForLogs : Text → Asked → Type 0
@@ -150,17 +140,24 @@ IsForLogs option _ = ⊥
 abbrev pub IsOfScript : Option Text → ScriptText → List Row → Asked → Type 0
 IsOfScript log_option text rows asked = MatchOption log_option (IsRequest text rows asked) (λ option. IsForLogs option asked)
 
--- the words that say which calls of logs are shown
-pub record AreViewWords (rows : List Row) (view : ViewWords) : Type 0 where
-  pub around : option_map (λ w. w.now) view.around ≡ first_of (codes "around") rows
-  pub readings : option_map (λ w. w.now) view.readings ≡ first_of (codes "readings") rows
-  pub key : option_map (λ w. w.now) view.key ≡ first_of (codes "key") rows
-  pub slice_key : option_map (λ w. w.now) view.slice_key ≡ first_of (codes "slice-key") rows
+-- names with one before them, if there is one
+abbrev pub with_first : Option Text → List Text → List Text
+with_first None names = names
+with_first (Some name) names = name ∷ names
 
--- this is written about these logs
-abbrev pub IsShow : List Text → LogText → List Row → Asked → Type 0
-IsShow logs text rows (asked.Show names shown view) = (map (λ n. n.now) names.items ≡ logs) × (shown ≡ text) × AreViewWords rows view
-IsShow logs text rows _ = ⊥
+-- which trace of logs is wanted
+pub record AreTraceFlags (no_calls : Bool) (rows : List Row) (flags : TraceFlags) : Type 0 where
+  pub calls : flags.with_calls ≡ not no_calls
+  pub drift : option_map (λ w. w.now) flags.drift ≡ first_of (codes "drift") rows
+  pub key : option_map (λ w. w.now) flags.key ≡ first_of (codes "key") rows
+  pub slice_key : option_map (λ w. w.now) flags.slice_key ≡ first_of (codes "slice-key") rows
+  pub from : flags.goes_on ≡ is_some (first_of (codes "from") rows)
+
+-- these logs are traced, after the state to go on from
+abbrev pub IsLogTrace : List Text → Bool → List Row → Asked → Type 0
+IsLogTrace logs no_calls rows (asked.Trace names flags) =
+    (map (λ n. n.now) names.items ≡ with_first (first_of (codes "from") rows) logs) × AreTraceFlags no_calls rows flags
+IsLogTrace logs no_calls rows _ = ⊥
 
 -- nothing is done: this script is given beside logs
 abbrev pub IsBeside : Text → Asked → Type 0
@@ -168,47 +165,28 @@ IsBeside file (asked.Misused (misuse.ScriptAndLogs given)) = given.now ≡ file
 IsBeside file _ = ⊥
 
 -- logs, unless a script is given too
-abbrev pub IsOfLogs : List Text → LogText → List Row → Asked → Type 0
-IsOfLogs logs text rows asked = MatchOption (first_of (codes "FILE") rows) (IsShow logs text rows asked) (λ file. IsBeside file asked)
+abbrev pub IsOfLogs : List Text → Bool → List Row → Asked → Type 0
+IsOfLogs logs no_calls rows asked = MatchOption (first_of (codes "FILE") rows) (IsLogTrace logs no_calls rows asked) (λ file. IsBeside file asked)
 
 -- logs where some are named, and else a script
-abbrev pub IsOfEither : List Text → Option Text → ScriptText → LogText → List Row → Asked → Type 0
-IsOfEither [] log_option script text rows asked = IsOfScript log_option script rows asked
-IsOfEither (log ∷ logs) log_option script text rows asked = IsOfLogs (log ∷ logs) text rows asked
+abbrev pub IsOfEither : List Text → Bool → ScriptText → List Row → Asked → Type 0
+IsOfEither [] no_calls script rows asked = IsOfScript (log_option_given no_calls rows) script rows asked
+IsOfEither (log ∷ logs) no_calls script rows asked = IsOfLogs (log ∷ logs) no_calls rows asked
 
 -- the logs that `--logs` names
 abbrev pub logs_named : List Row → List Text
 logs_named rows = unwrap_or (all_of (codes "logs") rows) []
-
--- `explain [--number] [--logs LOG..] [--around LOG:LINE] [--readings A..B] [--key KEY] [--slice-key NUMBER] [FILE]`
-abbrev pub AsksExplain : List Row → Asked → Type 0
-AsksExplain rows asked = (number : Bool) × IsFlag (codes "number") rows number
-    × IsOfEither (logs_named rows) (option_or (log_option_given rows) (option_given (codes "key") rows)) (show.Explained number) logged.Reasons rows asked
-
--- a picture of the key that `--key` names, with these clerks or without
-abbrev pub IsPicture : List Row → Bool → ScriptText → Type 0
-IsPicture rows with_clerks (show.Picture key clerks) =
-    (option_map (λ k. k.now) key ≡ first_of (codes "key") rows) × (clerks ≡ with_clerks)
-IsPicture rows with_clerks _ = ⊥
-
--- `timeline [--clerks] [--logs LOG..] [--around LOG:LINE] [--readings A..B] [--key KEY] [--slice-key NUMBER] [FILE]`
-abbrev pub AsksTimeline : List Row → Asked → Type 0
-AsksTimeline rows asked = (clerks : Bool) × IsFlag (codes "clerks") rows clerks × (picture : ScriptText) × IsPicture rows clerks picture
-    × IsOfEither (logs_named rows) (log_option_given rows) picture (logged.Picture clerks) rows asked
 
 -- a trace with the stretches for the key that `--key` names
 abbrev pub IsTraced : List Row → ScriptText → Type 0
 IsTraced rows (show.Traced key) = option_map (λ k. k.now) key ≡ first_of (codes "key") rows
 IsTraced rows _ = ⊥
 
--- `trace [--key KEY] [FILE]`
+-- `trace [--key KEY] [FILE]`, or
+-- `trace [--no-calls] [--drift EXTRA/PER/GRAIN] [--from STATE] [--key KEY | --slice-key NUMBER] --logs LOG..`
 abbrev pub AsksTrace : List Row → Asked → Type 0
-AsksTrace rows asked = (traced : ScriptText) × IsTraced rows traced × IsRequest traced rows asked
-
--- names with one before them, if there is one
-abbrev pub with_first : Option Text → List Text → List Text
-with_first None names = names
-with_first (Some name) names = name ∷ names
+AsksTrace rows asked = (no_calls : Bool) × IsFlag (codes "no-calls") rows no_calls × (script : ScriptText) × IsTraced rows script
+    × IsOfEither (logs_named rows) no_calls script rows asked
 
 -- `audit [--progress] [--strict] [--all] [--drift EXTRA/PER/GRAIN] [--from STATE] [--until STATE] LOG..`: the state to go on from, and all the
 -- logs, in their order
@@ -224,8 +202,6 @@ AsksAudit rows _ = ⊥
 pub record Asks (name : Text) (rows : List Row) (asked : Asked) : Type 0 where
   pub run : name ≡ codes "run" → AsksRun rows asked
   pub audit : name ≡ codes "audit" → AsksAudit rows asked
-  pub explain : name ≡ codes "explain" → AsksExplain rows asked
-  pub timeline : name ≡ codes "timeline" → AsksTimeline rows asked
   pub trace : name ≡ codes "trace" → AsksTrace rows asked
 
 -- these words ask for this; the first is the name of the program

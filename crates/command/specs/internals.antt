@@ -29,6 +29,5 @@ pub record SayNoneAfter (line : List ℕ) (names : List (List ℕ)) (before afte
 -- or nothing is known of them
 abbrev pub AreNotAfter : List ℕ → List (List ℕ) → (before after : Option (List ℕ)) → AuditError → Type 0
 AreNotAfter line names before after (audit.Refused why) = SayNoneAfter line names before after why
-AreNotAfter line names before after audit.NoCalls = ⊥
 AreNotAfter line names before after audit.Write = ⊥
 AreNotAfter line names before after _ = ⊤

@@ -5,7 +5,7 @@ ghost use Rattle.clap.specs.Kinds.{FailsBy};
 ghost use Rattle.clap.specs.Matches.{found_of};
 ghost use Rattle.clap.specs.Simple.{App};
 ghost use Rattle.clap.specs.Walk.{first_of, rows_of};
-ghost use Rattle.command.specs.Words.{Asks, AsksAudit, AsksExplain, AsksRun, AsksTimeline, AsksTrace, AreViewWords, IsOfLogs, IsOfScript, IsRequest, IsSource, log_option_given, option_given, with_first, audit_drift, audit_flags, audit_from, audit_until, audit_words, explain_flags, explain_words, run_words, shown_logs, timeline_flags, timeline_words, trace_key, trace_words, view_rules, with_rules, IsArgument, IsReadAs, WordsAsk, bare_hourstable, file, flag, hourstable, leaf, logs, option, word_faults};
+ghost use Rattle.command.specs.Words.{Asks, AsksAudit, AsksRun, AsksTrace, AreTraceFlags, IsOfLogs, IsOfScript, IsRequest, IsSource, log_option_given, log_rules, option_given, with_first, audit_drift, audit_flags, audit_from, audit_until, audit_words, flag_given, run_words, trace_key, trace_words, traced_logs, with_rules, IsArgument, IsReadAs, WordsAsk, bare_hourstable, file, flag, hourstable, leaf, logs, option, word_faults};
 ghost use Rattle.command.specs.declared.arguments.ScriptText.TheVariants as show;
 
 use clap::{Arg, ArgAction, ArgMatches, Command, Error};
@@ -14,7 +14,7 @@ use std::alloc::{AllocError, Global};
 
 const STATUSES: &str = "Exit statuses:
   0  done
-  1  audit: the calls are not one run
+  1  of logs: the calls are not one run
   2  the arguments or the input are refused, or a file cannot be opened
   3  reading or writing failed, or memory ran out";
 
@@ -23,7 +23,7 @@ const SCRIPT_STATUSES: &str = "Exit statuses:
   2  the arguments or the script are refused, or the file cannot be opened
   3  reading or writing failed, or memory ran out";
 
-const SHOWN_STATUSES: &str = "Exit statuses:
+const TRACE_STATUSES: &str = "Exit statuses:
   0  done; of logs: the calls are one run
   1  of logs: the calls are not one run
   2  the arguments, the script or a log are refused, or a file cannot be opened
@@ -55,11 +55,6 @@ pub enum ScriptText<'a> {
     Lines,
     /// The same, with each reply line after the number of its element and the name of its step.
     Numbered,
-    /// Reply lines, each followed by its reason, with numbers and names or without.
-    Explained { numbered: bool },
-    /// A picture, optionally with the stretches in which each task may serve a key, and with
-    /// clerks.
-    Picture { key: Option<&'a str>, clerks: bool },
     /// A trace: JSON lines with each reply and what decides it, optionally with the stretches in which
     /// each task may serve a key.
     Traced { key: Option<&'a str> },
@@ -90,27 +85,19 @@ pub struct AuditFlags<'a> {
     pub keeps: bool,
 }
 
-/// What is written about logs.
+/// Which trace of logs is wanted, as it was written.
 #[derive(Clone, Copy, Debug, PartialEq, Eq)]
-pub enum LogText {
-    /// A line for each call that is shown, with the reason for its reply, and then the report of an
-    /// audit.
-    Reasons,
-    /// A picture, with clerks or without.
-    Picture { clerks: bool },
-}
-
-/// Which calls of logs are shown, as it was written.
-#[derive(Clone, Copy, Debug, PartialEq, Eq)]
-pub struct ViewWords<'a> {
-    /// `LOG:LINE`: the calls around the one that stands there.
-    pub around: Option<&'a str>,
-    /// `A..B`: the calls in which clocks read these ticks.
-    pub readings: Option<&'a str>,
-    /// Of requests those for this key.
+pub struct TraceFlags<'a> {
+    /// Whether there are lines of calls, stretches and handles.
+    pub with_calls: bool,
+    /// The drift that samples are judged by.
+    pub drift: Option<&'a str>,
+    /// The key whose stretches are wanted.
     pub key: Option<&'a str>,
     /// The same, by the number that the key is hashed to.
     pub slice_key: Option<&'a str>,
+    /// Whether the first of the names is that of a state, which the logs go on from.
+    pub goes_on: bool,
 }
 
 /// Words that do not go together.
@@ -137,12 +124,11 @@ pub enum Asked<'a> {
         /// The file to save the state in that the logs leave.
         until: Option<&'a str>,
     },
-    /// Write this about the logs with these names, where `-` is standard input.
-    Show {
+    /// Trace the logs with these names, where `-` is standard input.
+    Trace {
         names: Vec<&'a str>,
-        text: LogText,
-        /// Which calls are shown.
-        view: ViewWords<'a>,
+        /// Which trace is wanted.
+        flags: TraceFlags<'a>,
     },
     /// Do nothing, for this reason.
     Misused(Misuse<'a>),
@@ -193,85 +179,50 @@ fn value_argument<'a>(
         .action(ArgAction::Set)
 }
 
-fn shown_logs_argument<'a>(alloc: Global) -> Arg<'a>
-    ensures { IsArgument shown_logs result }
+fn traced_logs_argument<'a>(alloc: Global) -> Arg<'a>
+    ensures { IsArgument traced_logs result }
 {
     Arg::new(alloc, "logs")
         .long("logs")
         .value_name("LOG")
-        .help("Show these logs in place of a script, as audit reads them; - is standard input")
+        .help("Trace these logs in place of a script, as audit reads them; - is standard input")
         .num_args(1..)
         .action(ArgAction::Append)
 }
 
 // Adds the options for logs to a command.
-fn with_view<'a>(
-    alloc: Global,
-    command: Command<'a>,
-    key_help: &'static str,
-) -> Result<Command<'a>, AllocError>
-    ensures { (app : App) → IsReadAs app command.entry → IfOk result (IsReadAs (with_rules app view_rules)) }
+fn with_log_options<'a>(alloc: Global, command: Command<'a>) -> Result<Command<'a>, AllocError>
+    ensures { (app : App) → IsReadAs app command.entry → IfOk result (IsReadAs (with_rules app log_rules)) }
 {
-    let around = "Of logs, the 50 calls before and after the one that stands at this line";
-    let readings = "Of logs, the calls from the first to the last that reads a clock in this range";
+    let no_calls = "Of logs, leave out the lines of calls, stretches and handles";
+    let drift = "Of logs, judge the samples of task clocks by this drift";
+    let from = "Of logs, a state that an earlier audit saved, to go on from";
     let slice_key = "Of logs, as --key, by the number that the key is hashed to";
     command
-        .arg(shown_logs_argument(alloc))?
-        .arg(value_argument(alloc, "around", "LOG:LINE", around))?
-        .arg(value_argument(alloc, "readings", "A..B", readings))?
-        .arg(value_argument(alloc, "key", "KEY", key_help))?
+        .arg(traced_logs_argument(alloc))?
+        .arg(flag(alloc, "no-calls", no_calls))?
+        .arg(value_argument(alloc, "drift", "EXTRA/PER/GRAIN", drift))?
+        .arg(value_argument(alloc, "from", "STATE", from))?
         .arg(value_argument(alloc, "slice-key", "NUMBER", slice_key))
 }
 
-// Returns the command for reasons, before its options for logs are added.
-fn explain_flags<'a>(alloc: Global) -> Result<Command<'a>, AllocError>
-    ensures { IfOk result (IsReadAs (leaf explain_flags)) }
-{
-    Command::new(alloc, "explain")
-        .about("Write the replies of a script, or with --logs of a service's calls, with reasons")
-        .after_help(SHOWN_STATUSES)
-        .arg(flag(alloc, "number", NUMBER))
-}
-
-fn explain_command<'a>(alloc: Global) -> Result<Command<'a>, AllocError>
-    ensures { IfOk result (IsReadAs (leaf explain_words)) }
-{
-    let key = "Of the requests of logs, those for this key alone";
-    with_view(alloc, explain_flags(alloc)?, key)?.arg(file_argument(alloc, SCRIPT))
-}
-
-// Returns the command for pictures, before its options for logs are added.
-fn timeline_flags<'a>(alloc: Global) -> Result<Command<'a>, AllocError>
-    ensures { IfOk result (IsReadAs (leaf timeline_flags)) }
-{
-    Command::new(alloc, "timeline")
-        .about("Draw a script, or with --logs a service's calls, as an SVG picture")
-        .after_help(SHOWN_STATUSES)
-        .arg(flag(alloc, "clerks", "Draw the clerks too"))
-}
-
-fn timeline_command<'a>(alloc: Global) -> Result<Command<'a>, AllocError>
-    ensures { IfOk result (IsReadAs (leaf timeline_words)) }
-{
-    let key = "Colour the readings at which each task may serve this key";
-    with_view(alloc, timeline_flags(alloc)?, key)?.arg(file_argument(alloc, SCRIPT))
-}
-
-// Returns the command for traces, before the script.
+// Returns the command for traces, before its options for logs are added.
 fn trace_key<'a>(alloc: Global) -> Result<Command<'a>, AllocError>
     ensures { IfOk result (IsReadAs (leaf trace_key)) }
 {
     let key = "Add the readings at which each task may serve this key";
     Command::new(alloc, "trace")
-        .about("Write each reply of a script, and the values that decide it, as JSON lines")
-        .after_help(SCRIPT_STATUSES)
+        .about(
+            "Trace a script, or with --logs a service's calls: JSON lines with what decides each reply",
+        )
+        .after_help(TRACE_STATUSES)
         .arg(value_argument(alloc, "key", "KEY", key))
 }
 
 fn trace_command<'a>(alloc: Global) -> Result<Command<'a>, AllocError>
     ensures { IfOk result (IsReadAs (leaf trace_words)) }
 {
-    trace_key(alloc)?.arg(file_argument(alloc, SCRIPT))
+    with_log_options(alloc, trace_key(alloc)?)?.arg(file_argument(alloc, SCRIPT))
 }
 
 fn logs_argument<'a>(alloc: Global) -> Arg<'a>
@@ -340,7 +291,9 @@ fn bare_command<'a>(alloc: Global, version: &'a str) -> Command<'a>
 {
     Command::new(alloc, "hourstable")
         .version(version)
-        .about("Run scripts of a key ownership service, explain and draw them, and audit its logs")
+        .about(
+            "Run scripts of a key ownership service, audit its logs, and trace what decides its replies",
+        )
         .after_help(STATUSES)
         .subcommand_required(true)
 }
@@ -352,8 +305,6 @@ fn hourstable_command<'a>(alloc: Global, version: &'a str) -> Result<Command<'a>
     bare_command(alloc, version)
         .subcommand(run_command(alloc)?)?
         .subcommand(audit_command(alloc)?)?
-        .subcommand(explain_command(alloc)?)?
-        .subcommand(timeline_command(alloc)?)?
         .subcommand(trace_command(alloc)?)
 }
 
@@ -412,15 +363,22 @@ fn option_given(matches: &ArgMatches<'_>, name: &'static str) -> Option<&'static
     }
 }
 
-// Returns the name of the first option that was given of those that say which calls of logs are
-// shown.
-fn log_option_given(matches: &ArgMatches<'_>) -> Option<&'static str>
-    ensures { option_map (λ n. n.now) result ≡ log_option_given (rows_of (found_of matches.now)) }
+// Returns the name of a flag, if it was given.
+fn flag_given(name: &'static str, is_given: bool) -> Option<&'static str>
+    ensures { option_map (λ n. n.now) result ≡ flag_given name.now is_given }
 {
-    let around = option_given(matches, "around");
-    let readings = option_given(matches, "readings");
+    if is_given { Some(name) } else { None }
+}
+
+// Returns the name of the first option that was given of those that are for logs.
+fn log_option_given(matches: &ArgMatches<'_>, no_calls: bool) -> Option<&'static str>
+    ensures { option_map (λ n. n.now) result ≡ log_option_given no_calls (rows_of (found_of matches.now)) }
+{
+    let no_calls = flag_given("no-calls", no_calls);
+    let drift = option_given(matches, "drift");
+    let from = option_given(matches, "from");
     let slice_key = option_given(matches, "slice-key");
-    around.or(readings).or(slice_key)
+    no_calls.or(drift).or(from).or(slice_key)
 }
 
 // Returns a request to play a script, unless this option was given, which is for logs.
@@ -437,73 +395,52 @@ fn script_request<'a>(
     }
 }
 
-// Returns the words that say which calls of logs are shown.
-fn view_words<'a>(matches: &ArgMatches<'a>) -> ViewWords<'a>
-    ensures { AreViewWords (rows_of (found_of matches.now)) result }
+// Returns which trace of logs is wanted.
+fn trace_flags<'a>(matches: &ArgMatches<'a>, no_calls: bool) -> TraceFlags<'a>
+    ensures { AreTraceFlags no_calls (rows_of (found_of matches.now)) result }
 {
-    ViewWords {
-        around: matches.get_str("around"),
-        readings: matches.get_str("readings"),
+    TraceFlags {
+        with_calls: !no_calls,
+        drift: matches.get_str("drift"),
         key: matches.get_str("key"),
         slice_key: matches.get_str("slice-key"),
+        goes_on: matches.get_str("from").is_some(),
     }
 }
 
-// Returns a request to show logs, unless a script was given too.
-fn show_request<'a>(
+// Returns a request to trace logs, unless a script was given too.
+fn log_request<'a>(
     alloc: Global,
     matches: &ArgMatches<'a>,
     given: &[&'a str],
-    text: LogText,
+    no_calls: bool,
 ) -> Result<Asked<'a>, AllocError>
-    ensures { IfOk result (IsOfLogs (map (λ n. n.now) given.now) text (rows_of (found_of matches.now))) }
+    ensures { IfOk result (IsOfLogs (map (λ n. n.now) given.now) no_calls (rows_of (found_of matches.now))) }
 {
     if let Some(file) = matches.get_str("FILE") {
         return Ok(Asked::Misused(Misuse::ScriptAndLogs(file)));
     }
-    Ok(Asked::Show {
-        names: names_of(alloc, None, given)?,
-        text,
-        view: view_words(matches),
+    let from = matches.get_str("from");
+    Ok(Asked::Trace {
+        names: names_of(alloc, from, given)?,
+        flags: trace_flags(matches, no_calls),
     })
 }
 
-fn explain_request<'a>(alloc: Global, matches: &ArgMatches<'a>) -> Result<Asked<'a>, AllocError>
-    ensures { IfOk result (AsksExplain (rows_of (found_of matches.now))) }
+fn trace_request<'a>(alloc: Global, matches: &ArgMatches<'a>) -> Result<Asked<'a>, AllocError>
+    ensures { IfOk result (AsksTrace (rows_of (found_of matches.now))) }
 {
-    let numbered = matches.get_flag("number");
-    let logs = matches.get_strs("logs").unwrap_or(&[]);
-    if !logs.is_empty() {
-        return show_request(alloc, matches, logs, LogText::Reasons);
-    }
-    let log_option = log_option_given(matches).or(option_given(matches, "key"));
-    Ok(script_request(matches, log_option, ScriptText::Explained { numbered }))
-}
-
-fn timeline_request<'a>(alloc: Global, matches: &ArgMatches<'a>) -> Result<Asked<'a>, AllocError>
-    ensures { IfOk result (AsksTimeline (rows_of (found_of matches.now))) }
-{
-    let clerks = matches.get_flag("clerks");
+    let no_calls = matches.get_flag("no-calls");
     let key = matches.get_str("key");
     let logs = matches.get_strs("logs").unwrap_or(&[]);
     if !logs.is_empty() {
-        return show_request(alloc, matches, logs, LogText::Picture { clerks });
+        return log_request(alloc, matches, logs, no_calls);
     }
-    Ok(script_request(
-        matches,
-        log_option_given(matches),
-        ScriptText::Picture { key, clerks },
-    ))
+    let log_option = log_option_given(matches, no_calls);
+    Ok(script_request(matches, log_option, ScriptText::Traced { key }))
 }
 
-fn trace_request<'a>(matches: &ArgMatches<'a>) -> Asked<'a>
-    ensures { AsksTrace (rows_of (found_of matches.now)) result }
-{
-    let key = matches.get_str("key");
-    play_request(matches, ScriptText::Traced { key })
-}
-
-// Returns the names of the logs to audit: the state to go on from, and those that were given.
+// Returns the names of logs: the state to go on from, and those that were given.
 fn names_of<'a>(
     alloc: Global,
     from: Option<&'a str>,
@@ -557,9 +494,7 @@ fn asked_by<'a>(
 {
     match name {
         "audit" => audited(alloc, matches),
-        "explain" => explain_request(alloc, matches),
-        "timeline" => timeline_request(alloc, matches),
-        "trace" => Ok(trace_request(matches)),
+        "trace" => trace_request(alloc, matches),
         _ => Ok(run_request(matches)),
     }
 }

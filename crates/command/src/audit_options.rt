@@ -5,8 +5,8 @@ ghost use Rattle.command.specs.Audits.{AreOptionsOf, IsDriftGiven, IsDriftOrNone
 
 use crate::arguments::AuditFlags;
 use crate::log_audit::AuditError;
+use audit_text::AuditOptions;
 use clocks::Drift;
-use log_words::AuditOptions;
 use std::alloc::{AllocError, Global};
 
 // Returns the drift that is written `EXTRA/PER/GRAIN`.
@@ -37,8 +37,15 @@ fn drift_in(alloc: Global, words: &str) -> Result<Option<Drift>, AllocError>
     }
 }
 
-// Returns the drift that is given, if one is.
-fn drift_given<'a>(alloc: Global, given: Option<&'a str>) -> Result<Option<Drift>, AuditError<'a>>
+/// Returns the drift that is given, if one is.
+///
+/// # Errors
+///
+/// [`AuditError::NoDrift`] if the words are no drift. Out of memory is [`AuditError::Memory`].
+pub fn drift_given<'a>(
+    alloc: Global,
+    given: Option<&'a str>,
+) -> Result<Option<Drift>, AuditError<'a>>
     ensures ok { IfOk result (IsDriftGiven given.entry) }
     ensures err { IfErr result IsNotRead }
 {

@@ -4,16 +4,16 @@
 mod arguments;
 mod audit_options;
 mod log_audit;
-mod log_showing;
+mod log_tracing;
 mod program;
 mod saved_state;
 mod script_run;
-mod view_words;
+mod trace_options;
 
 pub use arguments::{
-    Asked, AuditFlags, LogText, Misuse, Request, ScriptText, Source, ViewWords, parse_words,
+    Asked, AuditFlags, Misuse, Request, ScriptText, Source, TraceFlags, parse_words,
 };
-pub use log_audit::{AuditError, LogAudit, ViewFault, audit_named};
-pub use log_showing::{LogShowing, show_named};
+pub use log_audit::{AuditError, KeyFault, LogAudit, audit_named};
+pub use log_tracing::{LogTracing, trace_named};
 pub use program::{do_words, hourstable};
 pub use script_run::run_lines;

@@ -12,11 +12,11 @@ use crate::audit_options::options_of;
 use crate::saved_state::{
     SavedState, check_state, read_state, say_bad_state, say_other_state, state_text,
 };
+use audit_text::{LogReport, audit_log};
 use diagnosis::{say_about, say_memory, say_write};
 use faults::{Escaped, LONG_WORDS};
 use job_calls::{ClusterSnapshot, ResumeFault};
 use log_line::{LinePosition, LogError, LogReader, Progress, ReadLog};
-use log_words::{LogReport, audit_log};
 use memchr::memrchr;
 use program_io::{MOST_LINE_BYTES, ReadError, WriteError, write_all};
 use snapshot_text::SnapshotError;
@@ -25,51 +25,63 @@ use std::fs::{self, File};
 use std::io::{Error, Read, Write};
 use std::rt::Files;
 
-/// Why words do not say which calls of logs are shown.
+/// Why the stretches of a key are not traced.
 #[derive(Clone, Copy, Debug, PartialEq, Eq)]
-pub enum ViewFault {
-    /// `--around` is not `LOG:LINE` with one of the logs.
-    NoPlace,
-    /// `--readings` is not `A..B`.
-    NoReadings,
+pub enum KeyFault {
     /// `--slice-key` is not a number below 2^63.
     NoSliceKey,
-    /// `--around` and `--readings` are both given.
-    TwoWindows,
     /// `--key` and `--slice-key` are both given.
     TwoKeys,
+    /// The logs go on from a state.
+    FromState,
 }
 
-/// Why logs are not audited or shown.
+/// Why logs are not audited or traced.
 #[derive(Debug, Drop)]
 pub enum AuditError<'a> {
     /// The log with this name cannot be opened.
-    Unopened { name: &'a str, error: Error },
+    Unopened {
+        name: &'a str,
+        error: Error,
+    },
     /// The log with this name cannot be read to its end.
-    Read { name: &'a str },
+    Read {
+        name: &'a str,
+    },
     /// The logs are not a job and its calls.
     Refused(LogError),
     /// What is in the file of this name is not a state.
-    BadState { name: &'a str, why: SnapshotError },
+    BadState {
+        name: &'a str,
+        why: SnapshotError,
+    },
     /// The state in the file of this name is none of the job.
-    OtherState { name: &'a str, fault: ResumeFault },
+    OtherState {
+        name: &'a str,
+        fault: ResumeFault,
+    },
     /// This is not a drift, `EXTRA/PER/GRAIN`.
     NoDrift(&'a str),
-    /// These words of an option are no view of the logs.
-    NoView { words: &'a str, fault: ViewFault },
-    /// There are no calls such as are to be shown.
-    NoCalls,
+    /// The stretches of the key in these words of an option are not traced.
+    NoKey {
+        option: &'static str,
+        words: &'a str,
+        fault: KeyFault,
+    },
     /// The state cannot be saved in the file of this name.
-    Unsaved { name: &'a str, error: Error },
-    /// The report cannot be written.
+    Unsaved {
+        name: &'a str,
+        error: Error,
+    },
+    /// The report or the trace cannot be written.
     Write,
     /// Memory ran out.
     Memory,
 }
 
 impl AuditError<'_> {
-    /// Returns the exit status: 2 if a log cannot be opened, if a log, the state, the drift or a view
-    /// is refused, or if there is nothing to show, otherwise 3.
+    /// Returns the exit status: 2 if a log cannot be opened, or if a log, the state, the drift or the
+    /// key is refused, otherwise 3.
     pub fn status(&self) -> u8
         ensures { result ≡ status_of self.now }
     {
@@ -79,8 +91,7 @@ impl AuditError<'_> {
             | AuditError::BadState { .. }
             | AuditError::OtherState { .. }
             | AuditError::NoDrift(_)
-            | AuditError::NoView { .. }
-            | AuditError::NoCalls => 2,
+            | AuditError::NoKey { .. } => 2,
             AuditError::Read { .. }
             | AuditError::Unsaved { .. }
             | AuditError::Write
@@ -282,8 +293,8 @@ fn finished<'a>(log: LogReader) -> Result<ReadLog, AuditError<'a>>
     }
 }
 
-/// Reads the logs with these names, in their order, and returns their log.
-pub(crate) fn read_all<'a, R: Read, P: Progress>(
+// Reads the logs with these names, in their order, and returns their log.
+fn read_all<'a, R: Read, P: Progress>(
     rt: &(impl Files + AllocGlobal),
     names: &[&'a str],
     input: &mut R,
@@ -362,8 +373,8 @@ fn open_on<'a, R: Read, P: Progress>(
     }
 }
 
-// Reads the logs with these names, of which the first is a state if they go on from one.
-fn open_all<'a, R: Read, P: Progress>(
+/// Reads the logs with these names, of which the first is a state if they go on from one.
+pub(crate) fn open_all<'a, R: Read, P: Progress>(
     rt: &(impl Files + AllocGlobal),
     names: &[&'a str],
     goes_on: bool,
@@ -545,34 +556,20 @@ fn say_refused<E: Write>(errors: &mut E, names: &[&str], error: &LogError) {
     }
 }
 
-// Reports why words do not say which calls of logs are shown.
-fn say_no_view<E: Write>(errors: &mut E, words: &str, fault: ViewFault) {
+// Reports why the stretches of a key are not traced.
+fn say_no_key<E: Write>(errors: &mut E, option: &str, words: &str, fault: KeyFault) {
     let words = Escaped(words);
-    let _ = match fault {
-        ViewFault::NoPlace => writeln!(
-            errors,
-            "hourstable: --around {words}: it must be LOG:LINE, one of the logs and the number of a line in it"
-        ),
-        ViewFault::NoReadings => writeln!(
-            errors,
-            "hourstable: --readings {words}: it must be A..B, two numbers below 2^64"
-        ),
-        ViewFault::NoSliceKey => writeln!(
-            errors,
-            "hourstable: --slice-key {words}: it must be a number below 2^63"
-        ),
-        ViewFault::TwoWindows => writeln!(
-            errors,
-            "hourstable: --readings {words}: it cannot be given with --around"
-        ),
-        ViewFault::TwoKeys => writeln!(
-            errors,
-            "hourstable: --slice-key {words}: it cannot be given with --key"
-        ),
+    let why = match fault {
+        KeyFault::NoSliceKey => "it must be a number below 2^63",
+        KeyFault::TwoKeys => "it cannot be given with --key",
+        KeyFault::FromState => {
+            "it cannot be given with --from: stretches begin with the first log"
+        }
     };
+    let _ = writeln!(errors, "hourstable: --{option} {words}: {why}");
 }
 
-/// Reports why logs are not audited or shown.
+/// Reports why logs are not audited or traced.
 pub fn say_error<E: Write>(errors: &mut E, names: &[&str], error: &AuditError) {
     match error {
         AuditError::Unopened { name, error } => {
@@ -589,13 +586,11 @@ pub fn say_error<E: Write>(errors: &mut E, names: &[&str], error: &AuditError) {
                 "hourstable: --drift {words}: it must be EXTRA/PER/GRAIN, three numbers below 2^64, and PER not 0"
             );
         }
-        AuditError::NoView { words, fault } => say_no_view(errors, words, *fault),
-        AuditError::NoCalls => {
-            let _ = writeln!(
-                errors,
-                "hourstable: nothing to show: no call stands at that line, or no clock reads in that range"
-            );
-        }
+        AuditError::NoKey {
+            option,
+            words,
+            fault,
+        } => say_no_key(errors, option, words, *fault),
         AuditError::Unsaved { name, error } => {
             let name = Escaped(name);
             let _ = writeln!(errors, "hourstable: {name}: not saved: {error}");

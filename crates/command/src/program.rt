@@ -1,16 +1,16 @@
 //! The program.
 
-ghost use Rattle.std.specs.Prelude.{◌≡◌, ℕ, List, Option, map, string_bytes};
+ghost use Rattle.std.specs.Prelude.{◌≡◌, ℕ, List, MatchOption, Option, map, string_bytes};
 ghost use Rattle.std.specs.Process.{exit_status};
 ghost use Rattle.program_io.specs.Status.{status_after};
 ghost use Rattle.command.specs.Audits.{IsAuditEnd};
-ghost use Rattle.command.specs.Shows.{IsShowEnd};
+ghost use Rattle.command.specs.Traces.{IsTraceEnd};
 ghost use Rattle.clap.specs.Values.{kind_of};
-ghost use Rattle.command.specs.Endings.{Ends, EndsBy, EndsFor, IsHelped, IsPlayed, IsTold};
+ghost use Rattle.command.specs.Endings.{Ends, EndsBy, EndsFor, IsHelped, IsOfShow, IsPlayed, IsTold};
 
 use crate::arguments::{Asked, Misuse, Request, ScriptText, Source, parse_words, version_text};
 use crate::log_audit::{LogAudit, audit_named, say_error};
-use crate::log_showing::{LogShowing, show_named};
+use crate::log_tracing::{LogTracing, trace_named};
 use crate::script_run::run_lines;
 use clap::Error;
 use clap::error::ErrorKind;
@@ -116,22 +116,22 @@ fn judge_logs<R: Read, W: Write, E: Write>(
     }
 }
 
-// Shows logs, reports why they cannot be shown, and returns the exit status.
-fn show_logs<R: Read, W: Write, E: Write>(
+// Traces logs, reports why they cannot be traced, and returns the exit status.
+fn trace_logs<R: Read, W: Write, E: Write>(
     rt: &(impl Files + AllocGlobal),
-    showing: LogShowing<'_, '_>,
+    tracing: LogTracing<'_, '_>,
     input: &mut R,
     output: &mut W,
     errors: &mut E,
 ) -> u8
-    ensures { IsShowEnd (map (λ n. n.now) showing.entry.names.now) showing.entry.text showing.entry.view
+    ensures { IsTraceEnd (map (λ n. n.now) tracing.entry.names.now) tracing.entry.flags
         (R.remaining input.old) (R.remaining input.new) (W.contents output.old) (W.contents output.new) result }
 {
-    match show_named(rt, showing, input, output, errors) {
+    match trace_named(rt, tracing, input, output, errors) {
         Ok(true) => DONE,
         Ok(false) => FAULT,
         Err(error) => {
-            say_error(errors, showing.names, &error);
+            say_error(errors, tracing.names, &error);
             error.status()
         }
     }
@@ -187,10 +187,10 @@ fn do_asked<R: BufRead, W: Write, E: Write>(
             };
             judge_logs(rt, audit, input, output, errors)
         }
-        Asked::Show { names, text, view } => {
+        Asked::Trace { names, flags } => {
             let names = names.as_slice();
-            let showing = LogShowing { names, text, view };
-            show_logs(rt, showing, input, output, errors)
+            let tracing = LogTracing { names, flags };
+            trace_logs(rt, tracing, input, output, errors)
         }
         Asked::Misused(misuse) => say_misuse(errors, misuse),
     }
@@ -231,12 +231,24 @@ fn tell<W: Write, E: Write>(alloc: Global, error: &Error, output: &mut W, errors
     }
 }
 
+// Returns the subcommand that these words ask for, if it is one of `hourstable-show`.
+fn word_of_show(words: &[String]) -> Option<&'static str>
+    ensures { MatchOption result (IsOfShow (map string_bytes words.now) → ⊥) (λ _. IsOfShow (map string_bytes words.now)) }
+{
+    match words.get(1)?.as_str() {
+        "explain" => Some("explain"),
+        "timeline" => Some("timeline"),
+        _ => None,
+    }
+}
+
 /// Does what a command line asks for, and returns the exit status.
 ///
 /// The first word is the name of the program. Only results are written to `output`; failures are
 /// written to `errors`, each line after the name of the program. The status is 0 if the request is
 /// done, 1 if the calls of logs are not one run, 2 if the words or the input are refused or a file
-/// cannot be opened, and 3 if reading or writing fails or memory runs out.
+/// cannot be opened, and 3 if reading or writing fails or memory runs out. `explain` and `timeline`
+/// are refused: `hourstable-show` has them.
 pub fn do_words<R: BufRead, W: Write, E: Write>(
     rt: &(impl Files + AllocGlobal),
     words: &[String],
@@ -247,6 +259,10 @@ pub fn do_words<R: BufRead, W: Write, E: Write>(
     ensures { Ends (map string_bytes words.now) (R.remaining input.old) (R.remaining input.new)
         (W.contents output.old) (W.contents output.new) result }
 {
+    if let Some(word) = word_of_show(words) {
+        let _ = writeln!(errors, "hourstable: {word}: use hourstable-show {word}");
+        return REFUSED;
+    }
     let Ok(version) = version_text(rt.alloc()) else {
         let _ = say_memory(errors);
         return FAILED;

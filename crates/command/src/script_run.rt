@@ -1,4 +1,4 @@
-//! `hourstable run`, `explain`, `timeline` and `trace`: each reads a script, and writes a text about it.
+//! `hourstable run`, and `trace` without `--logs`: each reads a script, and writes a text about it.
 
 ghost use Rattle.std.specs.Prelude.{◌≡◌, IfErr, IfOk, OnOk, string_bytes, true};
 ghost use Rattle.std.specs.List.{list_all};
@@ -8,8 +8,8 @@ ghost use Rattle.program_io.specs.Status.{IsUnread};
 ghost use Rattle.command.specs.Runs.{AreFaultsOf, IsShown, IsShownNumbered, IsAnswered, IsFailed, numbered_lines, numbered_text};
 
 use crate::arguments::ScriptText;
+use call_values::step_word;
 use diagnosis::{faults_of, first_fault_law};
-use explain::{explained_text, step_word};
 use faults::{AnswerError, json_faults};
 use grants::policy_law;
 use program_io::{Fault, read_all, write_all};
@@ -18,7 +18,6 @@ use serde_json::{Category, Value};
 use service::{Script, is_timely, output_of, replies_of, script_of};
 use std::alloc::{AllocError, Global};
 use std::io::{Read, Write};
-use timeline::timeline_svg;
 use trace_text::trace_text;
 use world::Step;
 
@@ -97,8 +96,6 @@ fn shown(alloc: Global, text: ScriptText, script: &Script) -> Result<Vec<u8>, Al
     let shown = match text {
         ScriptText::Lines => output_of(alloc, script)?,
         ScriptText::Numbered => numbered_output(alloc, script)?,
-        ScriptText::Explained { numbered } => explained_text(alloc, script, numbered)?,
-        ScriptText::Picture { key, clerks } => timeline_svg(alloc, script, key, clerks)?,
         ScriptText::Traced { key } => {
             return trace_text(alloc, script.job, script.steps.as_slice(), key);
         }

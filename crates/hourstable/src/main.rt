@@ -1,4 +1,4 @@
-//! The command `hourstable`: plays, explains and draws scripts, and audits and shows logs.
+//! The command `hourstable`: plays scripts, audits logs, and traces both.
 #![tactic(auto)]
 
 use command::hourstable;

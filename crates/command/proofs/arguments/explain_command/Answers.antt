@@ -1,7 +1,0 @@
-use Rattle.std.proofs.lemmas.Result.{IfOk-weaker}
-use Rattle.command.proofs.Words.{one_argument}
-use Rattle.command.proofs.arguments.explain_command.Goals as goal
-
-pub returns : goal.returns
-returns c =
-    IfOk-weaker c.arg.result _ _ (λ r adds. one_argument _ _ _ _ _ (c.in_ok-with_view.ensures _ c.in_ok-explain_flags.ensures) c.file_argument.ensures adds) c.arg.ensures

@@ -1,4 +1,0 @@
-pub mod Kinds
-pub mod Told
-pub mod Ahead
-pub mod SoFar

@@ -1,2 +1,0 @@
--- What the bodies and their proofs speak of, and no clause of a public call.
-pub mod Playing

@@ -1,2 +1,0 @@
-mod Playing
-mod Writing

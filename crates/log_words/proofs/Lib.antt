@@ -1,9 +1,0 @@
-pub mod Judged
-pub mod Reporting
-pub mod Opening
-pub mod Hinting
-pub mod Counting
-pub mod Compared
-pub mod Breaking
-pub mod Telling
-pub mod Passing

@@ -1,8 +1,0 @@
-use Rattle.std.proofs.Common.{◌≡◌, codes, string_bytes}
-use Rattle.log_words.specs.declared.callers.Caller.TheVariants.{Task}
-use Rattle.log_words.specs.Callers.{calls_where, counted_text, is_of, texts_to}
-use Rattle.log_words.proofs.callers.tasks_text.Given as goal
-
--- the texts of the actors so far
-abbrev pub invariant-loop-place : goal.invariant-loop-place
-invariant-loop-place l = string_bytes l.text ≡ texts_to (λ n. counted_text (codes ", task ") n (calls_where (is_of (Task n)) l.entries)) l.place
