@@ -20,6 +20,7 @@ from stores import opened
 
 KINDS = ("sqlite", "postgresql", "etcd")
 MAY_SKIP = Path(__file__).with_name("may-skip.txt")
+BUGS = Path(__file__).resolve().parents[2] / "examples/audit/bugs"
 SETUP = Path(__file__).resolve().parents[2] / "tools/setup"
 
 
@@ -99,6 +100,19 @@ def url(request: pytest.FixtureRequest, running: Callable[[str], str], tmp_path:
 async def store(url: str) -> AsyncIterator[Store]:
     async with opened(url) as made:
         yield made
+
+
+@pytest.fixture(scope="session")
+def bug_logs(tmp_path_factory: pytest.TempPathFactory) -> Path:
+    """Plays a story on the service of examples/audit for each of its bugs, and returns the folder of their logs."""
+    from showing import stored_texts
+
+    folder = tmp_path_factory.mktemp("bugs")
+    words = [str(BUGS), "--jobs", "2", "--logs", str(folder), "--hourstable", needed.program()]
+    names = list(stored_texts("bugs.txt"))
+    ran = subprocess.run([*words, *names], capture_output=True, text=True, check=False, timeout=300)
+    assert ran.returncode == 0, ran.stdout + ran.stderr
+    return folder
 
 
 @pytest.fixture

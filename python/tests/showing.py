@@ -64,9 +64,7 @@ def of_script(path: Path, key: str | None = None) -> list[Members]:
     return [json.loads(line) for line in ran.stdout.splitlines()] if ran.returncode == 0 else []
 
 
-def of_logs(
-    folder: Path, names: list[str], key: int | None = None, drift: tuple[int, int, int] | None = None
-) -> list[Members]:
+def of_logs(folder: Path, names: list[str], key: int | None = None, drift: str | None = None) -> list[Members]:
     """Returns the lines of the trace of logs; none if they are refused."""
     ran = proved("audit", *names, cwd=folder)
     if ran.returncode > 1:
@@ -75,6 +73,12 @@ def of_logs(
     torn = [frozenset(int(line) for log, line in found if log == name) for name in names]
     texts = [(folder / name).read_bytes() for name in names]
     return list(Logs(Asked(names, texts, torn, key, drift)).trace())
+
+
+def names_in(folder: Path) -> list[str]:
+    """Returns the names of the logs that examples/audit/bugs has left in a folder, but for those of days."""
+    names = (it.name for it in folder.glob("*.jsonl") if not it.name.startswith("day-"))
+    return sorted(names, key=lambda it: (not it.startswith("table"), it))
 
 
 def keys_of(path: Path) -> list[str]:

@@ -3,7 +3,6 @@
 import json
 import re
 import shutil
-import subprocess
 from pathlib import Path
 
 import pytest
@@ -15,7 +14,7 @@ needed.library()
 from hourstable.library import slice_key  # noqa: E402
 from hourstable.show import pictures, report, sentences, trace, views  # noqa: E402
 from showing import (  # noqa: E402
-    COMMANDS, SCRIPTS, SHOWN, TOP, of_logs, of_script, read, show, stand_in, stored, stored_texts,
+    COMMANDS, SCRIPTS, SHOWN, TOP, names_in, of_logs, of_script, read, show, stand_in, stored, stored_texts,
 )
 from stand_in.tasks import Members  # noqa: E402
 
@@ -25,6 +24,7 @@ LINES = {it["name"]: it for it in map(json.loads, stored("commands.jsonl").split
 REPORTS = stored_texts("bugs.txt")  # of examples/audit
 BUGS = stored_texts("bugs-explained.txt")  # each kind of cause and hint
 NUMBER = re.compile(r"^\d+ \w+: ", re.MULTILINE)
+FENCED = re.compile(r"^fenced .*\n", re.MULTILINE)
 HELLO = slice_key(b"hello")
 
 
@@ -111,19 +111,9 @@ def test_a_command_line_reports_what_is_stored(folder: Path, tmp_path: Path, nam
 
 
 def of_files() -> list[str]:
-    """Returns the stored audits that judge files without writes to stores, which no trace tells yet, from the first
-    call on: the stand-in goes on from no state."""
+    """Returns the stored audits that judge files from the first call on: the stand-in goes on from no state."""
     found = {name: it["words"] for name, it in LINES.items() if it["words"][0] == "audit" and it["status"] < 2}
-    return [
-        name for name, words in found.items()
-        if not {"-", "--from"}.intersection(words) and not any(map(has_writes, words))
-    ]
-
-
-def has_writes(word: str) -> bool:
-    """Says whether a word names a log with a write."""
-    path = COMMANDS / word
-    return path.is_file() and any('"do":"write"' in line for line in path.read_text(errors="replace").splitlines())
+    return [name for name, words in found.items() if not {"-", "--from"}.intersection(words)]
 
 
 @pytest.mark.parametrize("name", of_files())
@@ -132,11 +122,11 @@ def test_a_report_is_what_is_stored(name: str) -> None:
     drift = None
     if "--drift" in words:
         place = words.index("--drift")
-        extra, per, grain = map(int, words[place + 1].split("/"))
-        drift, words = (extra, per, grain), words[:place] + words[place + 2:]
+        drift, words = words[place + 1], words[:place] + words[place + 2:]
     names = [it for it in words if not it.startswith("--")]
     found = read(of_logs(COMMANDS, names, drift=drift))
-    assert report.report(found, every="--all" in words) == as_written(name)[0]
+    wanted = FENCED.sub("", as_written(name)[0])  # a trace does not tell writes to stores
+    assert report.report(found, every="--all" in words) == wanted
 
 
 LATER = re.compile(r"steps (\d+)\ncalls table (\d+)(.*)\ntimely no: (\S+):(\d+) read (\d+), the table read (\d+)")
@@ -165,21 +155,6 @@ def test_a_report_goes_on_from_earlier_logs() -> None:
 # THE AUDITED EXAMPLE
 
 
-@pytest.fixture(scope="module")
-def logs(tmp_path_factory: pytest.TempPathFactory) -> Path:
-    """Plays a story on the example service for each of its bugs, and returns the folder of their logs."""
-    folder = tmp_path_factory.mktemp("logs")
-    words = [str(TOP / "examples/audit/bugs"), "--jobs", "2", "--logs", str(folder), "--hourstable", needed.program()]
-    ran = subprocess.run([*words, *REPORTS], capture_output=True, text=True, check=False, timeout=300)
-    assert ran.returncode == 0, ran.stdout + ran.stderr
-    return folder
-
-
-def names_in(folder: Path) -> list[str]:
-    names = (it.name for it in folder.glob("*.jsonl") if not it.name.startswith("day-"))
-    return sorted(names, key=lambda it: (not it.startswith("table"), it))
-
-
 def whole(found: trace.Trace) -> views.Window:
     return views.Window(0, len(found.calls) + len(found.rest))
 
@@ -193,31 +168,31 @@ def test_the_bugs_are_many() -> None:
 
 
 @pytest.mark.parametrize("bug", REPORTS)
-def test_logs_of_a_bug_are_reported(logs: Path, bug: str) -> None:
-    folder = logs / bug
+def test_logs_of_a_bug_are_reported(bug_logs: Path, bug: str) -> None:
+    folder = bug_logs / bug
     found = read(of_logs(folder, names_in(folder)))
     assert report.report(found, every=True) == REPORTS[bug]
 
 
 @pytest.mark.parametrize("bug", BUGS)
-def test_logs_of_a_bug_are_explained(logs: Path, bug: str) -> None:
-    folder = logs / bug
+def test_logs_of_a_bug_are_explained(bug_logs: Path, bug: str) -> None:
+    folder = bug_logs / bug
     found = read(of_logs(folder, names_in(folder)))
     assert explained(found, whole(found)) == BUGS[bug]
 
 
 @pytest.mark.parametrize("name", drawn("bugs"))
-def test_logs_of_a_bug_are_drawn(logs: Path, name: str) -> None:
+def test_logs_of_a_bug_are_drawn(bug_logs: Path, name: str) -> None:
     bug, _, key = name.partition(".")
-    folder = logs / bug
+    folder = bug_logs / bug
     found = read(of_logs(folder, names_in(folder), HELLO if key else None))
     assert pictures.log_picture(found, whole(found), not key) == stored(f"bugs/{name}.svg")
 
 
 @pytest.mark.parametrize("name", stored_texts("bugs-around.txt"))
-def test_calls_around_a_line_are_explained(logs: Path, name: str) -> None:
+def test_calls_around_a_line_are_explained(bug_logs: Path, name: str) -> None:
     bug, _, place = name.partition(" ")
-    folder = logs / bug
+    folder = bug_logs / bug
     names = names_in(folder)
     found = read(of_logs(folder, names, HELLO))
     window = views.window_of(found, views.view_of(tuple(names), place, None))

@@ -71,15 +71,15 @@ def parsed(log: int, text: bytes, torn: frozenset[int]) -> Iterator[tuple[int, M
 
 
 def read(logs: list[bytes], torn: list[frozenset[int]]) -> tuple[Members, list[Entry]]:
-    """Returns the job of logs, and their calls in the order of their tickets. `torn` are the lines of each that were
-    left out."""
+    """Returns the job of logs, and their calls in the order of their tickets; writes are none. `torn` are the lines
+    of each that were left out."""
     job: Members = {}
     entries = []
     for log, text in enumerate(logs):
         for number, found in parsed(log, text, torn[log]):
             if "job" in found and "do" not in found:
                 job = found["job"]
-            else:
+            elif found["do"] != "write":
                 entries.append(Entry(log, number, int(found["ticket"]), call_of(found), found["reply"]))
     return job, sorted(entries, key=lambda it: it.ticket)
 

@@ -23,13 +23,13 @@ CLERK = frozenset("learn look forget".split())
 
 class Asked(NamedTuple):
     """What is asked of logs: their names and texts, the lines of each that were left out, a key, perhaps by its text,
-    and a drift."""
+    and a drift, as `1/10/2`."""
 
     names: list[str]
     texts: list[bytes]
     torn: list[frozenset[int]]
     slice_key: int | None = None
-    drift: tuple[int, int, int] | None = None
+    drift: str | None = None
     key: str | None = None
 
 
@@ -166,8 +166,9 @@ class Logs:
         table = sum(it.do in TABLE for it in self.entries)
         return {"table": table, "tasks": sorted(tasks.items()), "clerks": sorted(clerks.items())}
 
-    def drift(self, drift: tuple[int, int, int]) -> Members:
+    def drift(self, drift: str) -> Members:
         """Returns the first sample that shows that clocks did not keep a drift."""
+        extra, per, grain = map(int, drift.split("/"))
         clocks: dict[int, TaskClock] = {}
         for number, entry in enumerate(self.entries, 1):
             call = entry.call
@@ -175,7 +176,7 @@ class Logs:
                 clocks.pop(call["task"], None)
             if entry.do != "sample":
                 continue
-            clock = clocks.setdefault(call["task"], TaskClock(*drift, (1 << 64) - 1))
+            clock = clocks.setdefault(call["task"], TaskClock(extra, per, grain, (1 << 64) - 1))
             why = sample_fault(clock, call)
             if why:
                 sample = {name: str(call[name]) for name in ("sent", "reading", "now")}

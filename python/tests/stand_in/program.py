@@ -56,11 +56,7 @@ def of_logs(chosen: argparse.Namespace) -> Iterator[Members]:
     key = None if chosen.slice_key is None else int(chosen.slice_key)
     if chosen.key is not None:
         key = slice_key(chosen.key.encode())
-    numbers = None
-    if chosen.drift is not None:
-        extra, per, grain = map(int, chosen.drift.split("/"))
-        numbers = (extra, per, grain)
-    trace = Logs(Asked(chosen.logs, texts, torn, key, numbers, chosen.key)).trace()
+    trace = Logs(Asked(chosen.logs, texts, torn, key, chosen.drift, chosen.key)).trace()
     left_out = ("call", "stretch", "broken") if chosen.no_calls else ()
     return (it for it in trace if not any(name in it for name in left_out))
 
@@ -72,7 +68,8 @@ def main(words: list[str]) -> int:
         os.execv(program, [program, *words])
     end: Members = {}
     for line in of_logs(chosen):
-        sys.stdout.write(f"{json.dumps(line, separators=(',', ':'))}\n")
+        text = json.dumps(line, ensure_ascii=False, separators=(",", ":"), sort_keys=True)
+        sys.stdout.buffer.write(f"{text}\n".encode("utf-8", "surrogateescape"))
         end = line.get("end", end)
     return 0 if end.get("verdict", "one") == "one" else 1
 
