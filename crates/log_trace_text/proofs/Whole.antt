@@ -15,7 +15,7 @@ use Rattle.call_values.proofs.Calls.{call_whole}
 use Rattle.call_values.proofs.CallerReplies.{told_whole}
 use Rattle.reason_values.specs.declared.place.LogLine.{LogLine}
 use Rattle.reason_values.proofs.Whole.{reason_whole, unsent_whole, with_place_whole}
-use Rattle.log_trace_text.specs.Calls.{decided_data, number_of, placed_data, told_call_data, untold_call_data}
+use Rattle.log_trace_text.specs.Calls.{decided_data, no_warnings, number_of, placed_data, told_call_data, untold_call_data}
 use Rattle.log_trace_text.specs.Places.{with_place_in}
 use Rattle.log_trace_text.specs.Unsent.{unsent_of}
 
@@ -40,15 +40,15 @@ placed_whole places call entry reply why warnings reply_whole why_whole =
     place_in_whole places call told
     (answered_whole told (call_data entry.line.call) (Some entry.line.ticket) reply why warnings refl (call_whole entry.line.call) reply_whole why_whole)
 
-pub told_call_whole : (places : List LogLine) (entries : List LogEntry) (entry : LogEntry) (line : Told)
-    → has_float (told_call_data places entries entry line) ≡ false
-told_call_whole places entries entry line =
+pub told_call_whole : (places : List LogLine) (entries : List LogEntry) (entry : LogEntry) (line : Told) (warnings : Warnings)
+    → has_float (told_call_data places entries entry line warnings) ≡ false
+told_call_whole places entries entry line warnings =
     placed_whole places (line.index + 1) entry (Some (told_data line.reply)) (decided_data places entries line.unsent line.first_taking line.reason)
-    (record { untimely = line.untimely; not_owner = line.not_owner }) (told_whole line.reply)
+    warnings (told_whole line.reply)
     (decided_whole places entries line.unsent line.first_taking line.reason)
 
 pub untold_call_whole : (places : List LogLine) (call : ℕ) (entry : LogEntry) → has_float (untold_call_data places call entry) ≡ false
-untold_call_whole places call entry = placed_whole places call entry None None (record { untimely = None; not_owner = None }) tt tt
+untold_call_whole places call entry = placed_whole places call entry None None no_warnings tt tt
 
 -- the text of a value without fractions
 pub written : {X E : Type 0} (r : Result X E) (text : X → List ℕ) (tell : Data → List ℕ) (value wanted : Data) → value ≡ wanted

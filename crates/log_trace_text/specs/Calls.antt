@@ -36,19 +36,25 @@ abbrev pub placed_data : List LogLine → ℕ → LogEntry → Option Data → O
 placed_data places call entry reply why warnings = with_place_in places call
     (answered_data (call_data entry.line.call) (Some entry.line.ticket) reply why warnings)
 
+abbrev pub no_warnings : Warnings
+no_warnings = record { untimely = None; not_owner = None }
+
+abbrev pub warnings_of : Told → Warnings
+warnings_of line = record { untimely = line.untimely; not_owner = line.not_owner }
+
 -- a call whose reply is told
-abbrev pub told_call_data : List LogLine → List LogEntry → LogEntry → Told → Data
-told_call_data places entries entry line = placed_data places (line.index + 1) entry (Some (told_data line.reply))
-    (decided_data places entries line.unsent line.first_taking line.reason) (record { untimely = line.untimely; not_owner = line.not_owner })
+abbrev pub told_call_data : List LogLine → List LogEntry → LogEntry → Told → Warnings → Data
+told_call_data places entries entry line warnings = placed_data places (line.index + 1) entry (Some (told_data line.reply))
+    (decided_data places entries line.unsent line.first_taking line.reason) warnings
 
 -- a call whose reply is not told, as those from the first fault on
 abbrev pub untold_call_data : List LogLine → ℕ → LogEntry → Data
-untold_call_data places call entry = placed_data places call entry None None (record { untimely = None; not_owner = None })
+untold_call_data places call entry = placed_data places call entry None None no_warnings
 
 -- the line of a call whose reply is told, which is that of the entry at its index
 abbrev pub told_line : List LogLine → List LogEntry → Told → Option LogEntry → List ℕ
 told_line places entries line None = []
-told_line places entries line (Some entry) = line_text (told_call_data places entries entry line)
+told_line places entries line (Some entry) = line_text (told_call_data places entries entry line (warnings_of line))
 
 abbrev pub told_lines : List LogLine → List LogEntry → List Told → List ℕ
 told_lines places entries [] = []

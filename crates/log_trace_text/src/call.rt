@@ -3,7 +3,7 @@
 ghost use Rattle.std.specs.Prelude.{◌≡◌, ◌<◌, IfOk, drop, length, option_map, slice_get};
 ghost use Rattle.serde_json.specs.View.{view};
 ghost use Rattle.reason_values.specs.Lines.{line_text};
-ghost use Rattle.log_trace_text.specs.Calls.{call_lines, placed_data, told_call_data, told_line, told_lines, untold_call_data, untold_lines};
+ghost use Rattle.log_trace_text.specs.Calls.{call_lines, no_warnings, placed_data, told_call_data, told_line, told_lines, untold_call_data, untold_lines, warnings_of};
 
 use crate::place::with_place;
 use crate::reason::decided_json;
@@ -41,23 +41,40 @@ fn placed_json(
     with_place(alloc, places, call, told)
 }
 
-/// Writes a call whose reply is told, which is that of this entry.
+/// Returns no warnings.
+pub(crate) fn no_warnings() -> Warnings
+    ensures { result ≡ no_warnings }
+{
+    Warnings {
+        untimely: None,
+        not_owner: None,
+    }
+}
+
+// Returns what a call warns of.
+fn warnings_of(line: &Told) -> Warnings
+    ensures { result ≡ warnings_of line.now }
+{
+    Warnings {
+        untimely: line.untimely,
+        not_owner: line.not_owner,
+    }
+}
+
+/// Writes a call whose reply is told, which is that of this entry, with these warnings.
 pub(crate) fn told_call_json(
     alloc: Global,
     places: &[LogLine],
     entries: &[LogEntry],
     entry: &LogEntry,
     line: &Told,
+    warnings: Warnings,
 ) -> Result<Value, AllocError>
     requires { line.now.index < length entries.now }
-    ensures { IfOk result (λ v. view v ≡ told_call_data places.now entries.now entry.now line.now) }
+    ensures { IfOk result (λ v. view v ≡ told_call_data places.now entries.now entry.now line.now warnings) }
 {
     let reply = told_json(alloc, &line.reply)?;
     let why = decided_json(alloc, places, entries, line)?;
-    let warnings = Warnings {
-        untimely: line.untimely,
-        not_owner: line.not_owner,
-    };
     let call = line.index as u64 + 1;
     placed_json(alloc, places, call, entry, (Some(reply), why), warnings)
 }
@@ -70,9 +87,10 @@ fn told_call_line(
     line: &Told,
 ) -> Result<Vec<u8>, AllocError>
     requires { line.now.index < length entries.now }
-    ensures { IfOk result (λ text. text.items ≡ line_text (told_call_data places.now entries.now entry.now line.now)) }
+    ensures { IfOk result (λ text. text.items
+        ≡ line_text (told_call_data places.now entries.now entry.now line.now (warnings_of line.now))) }
 {
-    let value = told_call_json(alloc, places, entries, entry, line)?;
+    let value = told_call_json(alloc, places, entries, entry, line, warnings_of(line))?;
     line_of(alloc, &value)
 }
 
@@ -99,11 +117,7 @@ fn untold_call_json(
 ) -> Result<Value, AllocError>
     ensures { IfOk result (λ v. view v ≡ untold_call_data places.now call entry.now) }
 {
-    let warnings = Warnings {
-        untimely: None,
-        not_owner: None,
-    };
-    placed_json(alloc, places, call, entry, (None, None), warnings)
+    placed_json(alloc, places, call, entry, (None, None), no_warnings())
 }
 
 fn untold_line(

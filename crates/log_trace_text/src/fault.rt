@@ -3,10 +3,10 @@
 ghost use Rattle.std.specs.Prelude.{◌≡◌, ◌<◌, IfOk, false, length, slice_get};
 ghost use Rattle.serde_json.specs.View.{view};
 ghost use Rattle.serde_json.specs.Written.{has_float};
-ghost use Rattle.log_trace_text.specs.Calls.{told_call_data};
+ghost use Rattle.log_trace_text.specs.Calls.{no_warnings, told_call_data};
 ghost use Rattle.log_trace_text.specs.Faults.{fault_line, fault_lines, fault_text};
 
-use crate::call::told_call_json;
+use crate::call::{no_warnings, told_call_json};
 use log_line::LogEntry;
 use log_trace::LogLine as Told;
 use reason_values::LogLine;
@@ -33,9 +33,9 @@ fn fault_call_line(
 ) -> Result<Vec<u8>, AllocError>
     requires { line.now.index < length entries.now }
     ensures { IfOk result (λ text. text.items
-        ≡ fault_text entry.now.line.reply (told_call_data places.now entries.now entry.now line.now)) }
+        ≡ fault_text entry.now.line.reply (told_call_data places.now entries.now entry.now line.now no_warnings)) }
 {
-    let value = told_call_json(alloc, places, entries, entry, line)?;
+    let value = told_call_json(alloc, places, entries, entry, line, no_warnings())?;
     fault_text(alloc, entry.line.reply.as_str(), value)
 }
 
