@@ -12,7 +12,7 @@ block to block, and end with the page. Each block has 300 seconds. `/tmp/` in a 
 is removed when the page is done, and each `127.0.0.1:80NN` is an address with a port of its own.
 
 No block proves, and none compiles Rattle. `hourstable`, `slicer_run` and `slicer_live` are on the PATH as they were
-built (tools/built.py), and HOURSTABLE_BUILT names their folder. `rt` on that PATH is a stand-in, so that no kit is
+built (tools/built.py), with `hourstable-show` of this checkout, and HOURSTABLE_BUILT names their folder. `rt` on that PATH is a stand-in, so that no kit is
 needed: `rt try` and `rt run` in the folder of a program run the built program at once, with the arguments after `--`;
 all else fails.
 """
@@ -24,6 +24,7 @@ import shutil
 import signal
 import socket
 import subprocess
+import sys
 import tempfile
 import time
 from collections.abc import Iterator
@@ -38,12 +39,15 @@ NOT_RUN = re.compile(r"^not run: \S")
 OF_FILE = re.compile(r"^file: (\S+)$")
 ADDRESS = re.compile(r"\b127\.0\.0\.1:80\d\d\b")
 OTHER_NAMES = {"bash", "shell", "console", "shell-session", "sh-session", "zsh"}
-COMMANDS = r"rt|hourstable|slicer_run|slicer_live|python3?|gcc|g\+\+|cargo|rustc|go|git|cd|cp|mkdir|pip|curl|export"
+COMMANDS = r"rt|hourstable(?:-show)?|slicer_run|slicer_live|python3?|gcc|g\+\+|cargo|rustc|go|git|cd|cp|mkdir|pip|curl|export"
 LIKE_COMMAND = re.compile(
     rf"^(?: {{4,}}|\t)\(?(?:\$ )?(?:[A-Z_]+=\S+ )*"
     rf"(?:{COMMANDS}|[A-Z]+=\S+|\.ci/run|(?:tools|tests|bench)/[\w/-]+)(?: |$)"
 )
 
+SHOW = """#!/usr/bin/env bash
+PYTHONPATH={top}/python exec {python} -B -m hourstable.show "$@"
+"""
 STAND_IN = """#!/usr/bin/env bash
 name=$(basename "$PWD")
 words=("${@:2}")
@@ -84,9 +88,9 @@ class Copy:
             for place in (self.top / f"crates/{name}/out/{name}", self.bin / name):
                 place.parent.mkdir(parents=True, exist_ok=True)
                 place.symlink_to(built.program(name))
-        stand_in = self.bin / "rt"
-        stand_in.write_text(STAND_IN)
-        stand_in.chmod(0o755)
+        for name, text in (("rt", STAND_IN), ("hourstable-show", SHOW.format(top=self.top, python=sys.executable))):
+            (self.bin / name).write_text(text)
+            (self.bin / name).chmod(0o755)
         self.variables = {
             **os.environ,
             "PATH": f"{self.bin}:{os.environ['PATH']}",
