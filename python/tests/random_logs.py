@@ -1,5 +1,5 @@
-"""Logs of random calls, many of which are accepted. The machines of the stand-in make the replies; some lines are wrong
-on purpose."""
+"""Logs of random calls, many of which are accepted. The machines of the stand-in make the replies; some lines are
+wrong on purpose."""
 
 from __future__ import annotations
 
@@ -64,8 +64,8 @@ class LogMaker:
             return {"do": do, "task": task, "life": self.lives.get(task, 0) + self.random.choice((0, 0, 0, 1, -1))}
         if do == "sample":
             self.sampled += self.random.randint(1, 30)
-            read = {"sent": self.sampled, "reading": self.sampled + self.random.randint(0, 9), "now": self.sampled + 5}
-            return {"do": do, "task": task, **read}
+            reading = self.sampled + self.random.randint(0, 9)
+            return {"do": do, "task": task, "sent": self.sampled, "reading": reading, "now": self.sampled + 5}
         kept = self.machines.kept_numbers()
         return {"do": do, **kept, "last": max(kept["last"] + self.random.choice((0, 0, 1, -1)), 0)}
 

@@ -1,5 +1,5 @@
-"""The lines of `hourstable trace --logs` are those of the stand-in, which shares no code with it: the same values, in the
-same order."""
+"""The lines of `hourstable trace --logs` are those of the stand-in, which shares no code with it: the same values, in
+the same order."""
 
 from __future__ import annotations
 

@@ -12,9 +12,9 @@ block to block, and end with the page. Each block has 300 seconds. `/tmp/` in a 
 is removed when the page is done, and each `127.0.0.1:80NN` is an address with a port of its own.
 
 No block proves, and none compiles Rattle. `hourstable`, `slicer_run` and `slicer_live` are on the PATH as they were
-built (tools/built.py), with `hourstable-show` of this checkout, and HOURSTABLE_BUILT names their folder. `rt` on that PATH is a stand-in, so that no kit is
-needed: `rt try` and `rt run` in the folder of a program run the built program at once, with the arguments after `--`;
-all else fails.
+built (tools/built.py), and `hourstable-show` of this checkout; HOURSTABLE_BUILT names the folder of the former. `rt`
+on that PATH is a stand-in, so that no kit is needed: `rt try` and `rt run` in the folder of a program run the built
+program at once, with the arguments after `--`; all else fails.
 """
 import ast
 import difflib
@@ -39,7 +39,10 @@ NOT_RUN = re.compile(r"^not run: \S")
 OF_FILE = re.compile(r"^file: (\S+)$")
 ADDRESS = re.compile(r"\b127\.0\.0\.1:80\d\d\b")
 OTHER_NAMES = {"bash", "shell", "console", "shell-session", "sh-session", "zsh"}
-COMMANDS = r"rt|hourstable(?:-show)?|slicer_run|slicer_live|python3?|gcc|g\+\+|cargo|rustc|go|git|cd|cp|mkdir|pip|curl|export"
+COMMANDS = (
+    r"rt|hourstable(?:-show)?|slicer_run|slicer_live|python3?|gcc|g\+\+|cargo|rustc|go|git|cd|cp|mkdir|pip|curl"
+    "|export"
+)
 LIKE_COMMAND = re.compile(
     rf"^(?: {{4,}}|\t)\(?(?:\$ )?(?:[A-Z_]+=\S+ )*"
     rf"(?:{COMMANDS}|[A-Z]+=\S+|\.ci/run|(?:tools|tests|bench)/[\w/-]+)(?: |$)"
