@@ -27,4 +27,4 @@ pub use hints::{Hints, hints_for};
 pub use judging::{Found, audit_calls, find_calls};
 pub use missing::MissingGrants;
 pub use questions::{WrongCall, cause_of};
-pub use taking::first_taking;
+pub use taking::{first_taking, is_taken_away};

@@ -26,8 +26,9 @@ fn is_broken(checked: Result<bool, Stranger>) -> bool
     }
 }
 
-// Whether a call took the key of a task's handle away.
-fn is_taken_away(cluster: &Cluster, task: u64, handle: &KeyHandle) -> bool
+/// Whether a call took the key of a task's handle away: a check of it, at the last reading of the
+/// task, finds it broken.
+pub fn is_taken_away(cluster: &Cluster, task: u64, handle: &KeyHandle) -> bool
     ensures { (job : Continued) (past : Past) → LeadsTo job past cluster.now → result ≡ is_taken_away (job_in job) past task handle.now }
 {
     match cluster.slicelet(task) {
