@@ -52,23 +52,10 @@ class Bug:
         return re.sub(r"\{(above |below |)([\w-]+)\}", place, self.says)
 
 
-def told(mark: str, words: str, right: str, why: str = "") -> str:
+def told(mark: str, words: str, right: str) -> str:
     """Returns what the audit says of a call whose caller was told these words in place of the right
     ones."""
-    return f'{{{mark}}}: told "{words}"; should be "{right}"{why and ": "}{why}'
-
-
-def hint(task: int, life: int, mark: str) -> str:
-    """Returns what the audit says where it finds that an `open` may be missing."""
-    return (
-        f"\nhint: an open line of task {task} with life {life} before {{{mark}}}"
-        " would make the calls up to this one a run"
-    )
-
-
-def unstarted(task: int) -> str:
-    """Returns what the audit says where it finds that a `start` may be missing."""
-    return f"\nhint: a start line of task {task} may be missing before this call"
+    return f'{{{mark}}}: told "{words}"; should be "{right}"'
 
 
 def refused(mark: str, fault: str) -> str:
@@ -97,7 +84,7 @@ bug(
     "takes-a-held-lease",
     "An assigner is given the job lease while another one has it.",
     "terms",
-    told("held", "term 2 until 1010", "refused job-held 1000", "read at 10"),
+    told("held", "term 2 until 1010", "refused job-held 1000"),
     before(LeaseTable, "take", take_over),
 )
 
@@ -117,7 +104,7 @@ bug(
     "term-runs-at-its-end",
     "A term still runs at the reading at which it ends.",
     "terms",
-    told("late", "renewed 1 until 2500", "refused not-holder 1", "term 1 ended at 1500"),
+    told("late", "renewed 1 until 2500", "refused not-holder 1"),
     instead(LeaseTable, "is_over", lambda table, term, at: at > term.until),
 )
 
@@ -132,7 +119,7 @@ bug(
     "renewal-moves-nothing",
     "A renewal is answered, and the end of the term stays where it was.",
     "terms",
-    told("moved", "term 2 until 2000", "refused job-held 1500", "read at 1000"),
+    told("moved", "term 2 until 2000", "refused job-held 1500"),
     instead(LeaseTable, "renew", renew_nothing),
 )
 
@@ -147,21 +134,21 @@ bug(
     "old-term-renews",
     "A term that was taken over may still renew.",
     "terms",
-    told("old", "renewed 1 until 2501", "refused not-holder 2", "the table's term is 2"),
+    told("old", "renewed 1 until 2501", "refused not-holder 2"),
     instead(LeaseTable, "holder", whoever_holds),
 )
 bug(
     "ended-term-proposes",
     "A term that has ended still proposes.",
     "terms",
-    told("ended", "proposed 2", "refused not-holder 1", "term 1 ended at 1500"),
+    told("ended", "proposed 2", "refused not-holder 1"),
     during(LeaseTable, "propose", is_over=lambda table, term, at: False),
 )
 bug(
     "old-term-commits",
     "A term that was taken over still commits.",
     "terms",
-    told("older", "committed 2", "refused not-holder 2", "the table's term is 2"),
+    told("older", "committed 2", "refused not-holder 2"),
     during(LeaseTable, "commit", holder=nothing),
 )
 
@@ -192,7 +179,7 @@ bug(
     "names-the-callers-term",
     "A refusal names the term of the caller, and not the last one.",
     "terms",
-    told("old", "refused not-holder 1", "refused not-holder 2", "the table's term is 2"),
+    told("old", "refused not-holder 1", "refused not-holder 2"),
     instead(LeaseTable, "holder", name_the_caller),
 )
 
@@ -211,7 +198,7 @@ bug(
     "tells-how-long",
     "A refused assigner is told for how long the job lease is held, and not until when.",
     "terms",
-    told("held", "refused job-held 990", "refused job-held 1000", "read at 10"),
+    told("held", "refused job-held 990", "refused job-held 1000"),
     instead(LeaseTable, "take", tell_how_long(LeaseTable.take)),
 )
 
@@ -296,7 +283,7 @@ bug(
     "commits-over-guards",
     "A commit looks at no row, while guard leases of the old generation run.",
     "commits",
-    told("guard", "committed 2", "refused held 1 guard 1", "it ends at 105, read at 21"),
+    told("guard", "committed 2", "refused held 1 guard 1"),
     instead(LeaseTable, "holds_up", lambda table, row, at: False),
 )
 OLDER = LeaseTable.holds_up
@@ -304,7 +291,7 @@ bug(
     "commits-over-bridges",
     "A commit looks at guard leases alone.",
     "commits",
-    told("bridge", "committed 3", "refused held 1 bridge 3", "it ends at 102, read at 34"),
+    told("bridge", "committed 3", "refused held 1 bridge 3"),
     instead(
         LeaseTable,
         "holds_up",
@@ -322,7 +309,7 @@ bug(
     "names-the-last-row",
     "A commit that is held up names the last row, and not the first.",
     "commits",
-    told("guard", "refused held 2 guard 2", "refused held 1 guard 1", "it ends at 105, read at 21"),
+    told("guard", "refused held 2 guard 2", "refused held 1 guard 1"),
     instead(LeaseTable, "row_told", lambda table, rows: rows[-1]),
 )
 bug(
@@ -336,7 +323,7 @@ bug(
     "row-ends-with-the-lease",
     "A row ends at the deadline of the task, and not at that of the table.",
     "waiting",
-    told("first", "refused held 2 guard 2", "refused held 1 guard 1", "it ends at 105, read at 95"),
+    told("first", "refused held 2 guard 2", "refused held 1 guard 1"),
     instead(LeaseTable, "is_open", lambda table, row, at: at < row.ends),
 )
 bug(
@@ -388,7 +375,7 @@ bug(
     "table-goes-back",
     "The table accepts a reading below its last one.",
     "readings",
-    told("back", "renewed 1 until 1039", "refused clock-back", "read at 39 after 40"),
+    told("back", "renewed 1 until 1039", "refused clock-back"),
     instead(LeaseTable, "check_reading", check_range),
 )
 
@@ -454,7 +441,7 @@ bug(
     "bridge-of-all-old-keys",
     "A bridge lease is sent with all keys that the task owned.",
     "move-whole",
-    told("bridge", "heard 4", "refused not-sent", '"ranges" are not those of {grant-4}'),
+    told("bridge", "heard 4", "refused not-sent"),
     instead(
         LeaseTable,
         "keys_for",
@@ -465,7 +452,7 @@ bug(
     "bridge-of-all-old-keys-unlogged",
     "The same, and the lines of the tasks leave the ranges of grants out.",
     "move",
-    told("beyond", "served bridge 3", "denied not-owned 3", "bridge 4 until 100, read at 33"),
+    told("beyond", "served bridge 3", "denied not-owned 3"),
     instead(
         LeaseTable,
         "keys_for",
@@ -480,7 +467,6 @@ bug(
         "other",
         "served bridge 2",
         "denied not-owned 2",
-        "guard 3 until 105, bridge 4 until 92, read at 25",
     ),
     instead(
         LeaseTable,
@@ -493,7 +479,7 @@ bug(
     "The table sends a grant of another life than the one that was asked for.",
     "notes",
     told(
-        "hear", "refused other-life", "refused not-sent", '"life" is 1 here, 2 at {of-life-2}'
+        "hear", "refused other-life", "refused not-sent"
     ),
     after(
         LeaseTable,
@@ -508,7 +494,7 @@ bug(
     "free-forgets",
     "A note is answered, and its rows stay.",
     "commits",
-    told("other", "refused held 1 guard 1", "refused held 2 guard 2", "it ends at 107, read at 26"),
+    told("other", "refused held 1 guard 1", "refused held 2 guard 2"),
     instead(LeaseTable, "drop", nothing),
 )
 bug(
@@ -583,7 +569,7 @@ bug(
     "makes-up-a-note",
     "When a task asks again, the table frees its older row by a note that nobody sent.",
     "renewal",
-    told("above grant", "freed 1", "refused not-sent", "no line of the logs sends it"),
+    told("above grant", "freed 1", "refused not-sent"),
     before(TableActor, "make", make_up_a_note),
 )
 bug(
@@ -658,7 +644,7 @@ bug(
     "no-grace",
     "A table that lost its rows commits at once.",
     "loss",
-    told("grace", "committed 2", "refused grace 107", "read at 104"),
+    told("grace", "committed 2", "refused grace 107"),
     instead(LeaseTable, "check_grace", nothing),
 )
 
@@ -755,7 +741,7 @@ bug(
     "restored-without-grace",
     "A restored table commits at once.",
     "kept",
-    told("grace", "committed 2", "refused grace 107", "read at 37"),
+    told("grace", "committed 2", "refused grace 107"),
     restored_with(grace=0),
 )
 bug(
@@ -809,7 +795,7 @@ bug(
     "goes-on-before-the-stored-reading",
     "A restored table accepts readings below the one that was saved ahead.",
     "ahead",
-    told("early", "grant 8 guard 1 until 116 106", "refused clock-back", "read at 16 after 20"),
+    told("early", "grant 8 guard 1 until 116 106", "refused clock-back"),
     restored_with(last=12),
 )
 bug(
@@ -823,7 +809,7 @@ bug(
     "grace-of-what-was-granted",
     "The grace of a restored table leaves out what was saved ahead.",
     "ahead",
-    told("grace", "refused held 1 guard 8", "refused grace 120", "read at 119"),
+    told("grace", "refused held 1 guard 8", "refused grace 120"),
     restored_with(grace=112),
 )
 bug(
@@ -895,28 +881,28 @@ bug(
     "hears-other-lives",
     "A task hears a grant of an earlier life.",
     "denials",
-    told("lived", "heard 1", "refused other-life", "the task is in life 2"),
+    told("lived", "heard 1", "refused other-life"),
     instead(Slicelet, "check_receiver", check_task_alone),
 )
 bug(
     "hears-too-late",
     "A task hears a grant at the end of its lease.",
     "denials",
-    told("late", "heard 3", "refused too-late", "guard 3 ended at 115, read at 115"),
+    told("late", "heard 3", "refused too-late"),
     instead(Slicelet, "check_in_time", nothing),
 )
 bug(
     "hears-before-it-starts",
     "A task that was not started looks at the grants that it gets.",
     "denials",
-    told("unheard", "refused other-life", "refused not-started") + unstarted(1),
+    told("unheard", "refused other-life", "refused not-started"),
     instead(Slicelet, "check_up", nothing),
 )
 bug(
     "idle-told-as-nothing-held",
     "A release by a task that was not started is told to have found no lease.",
     "denials",
-    told("idle", "refused nothing-held", "refused not-started") + unstarted(1),
+    told("idle", "refused nothing-held", "refused not-started"),
     during(Slicelet, "release", check_up=nothing),
 )
 bug(
@@ -932,7 +918,7 @@ bug(
     "accepts-a-clock-behind",
     "A task accepts calls with a reading below its last one.",
     "denials",
-    told("back", "released life 1 number 1", "refused clock-back", "read at 19 after 20"),
+    told("back", "released life 1 number 1", "refused clock-back"),
     instead(Slicelet, "check_reading", nothing),
 )
 
@@ -971,7 +957,6 @@ bug(
         "other",
         "denied not-owned 1",
         "denied not-owned 2",
-        "guard 3 until 105, bridge 4 until 92, read at 25",
     ),
     instead(Slicelet, "put", put_alone),
 )
@@ -989,21 +974,21 @@ bug(
     "serves-at-the-deadline",
     "A task serves at the deadline of its lease.",
     "renewal",
-    told("ended", "served guard 1", "denied ended", "guard 3 ended at 140, read at 140"),
+    told("ended", "served guard 1", "denied ended"),
     instead(Slicelet, "is_live", lambda task, lease, at: at <= lease.ends),
 )
 bug(
     "serves-till-the-tables-deadline",
     "A task serves until its lease ends for the table.",
     "renewal",
-    told("ended", "served guard 1", "denied ended", "guard 3 ended at 140, read at 140"),
+    told("ended", "served guard 1", "denied ended"),
     instead(Slicelet, "is_live", lambda task, lease, at: at < lease.until),
 )
 bug(
     "serves-for-ever",
     "A lease never ends for its task, whose log has words and slice keys alone.",
     "edges",
-    told("ended", "served", "denied ended", "guard 1 ended at 95, read at 140"),
+    told("ended", "served", "denied ended"),
     instead(Slicelet, "is_live", lambda task, lease, at: True),
 )
 bug(
@@ -1022,14 +1007,14 @@ bug(
     "serves-with-a-clock-behind",
     "A task serves at a reading below its last one.",
     "denials",
-    told("behind", "served guard 1", "denied clock-back", "read at 19 after 20"),
+    told("behind", "served guard 1", "denied clock-back"),
     instead(Slicelet, "verdict", lambda task, key, at: VERDICT(task, key, max(at, task.last))),
 )
 bug(
     "never-down",
     "A task that was not started tells that it holds no lease.",
     "denials",
-    told("down", "denied no-lease", "denied down") + unstarted(1),
+    told("down", "denied no-lease", "denied down"),
     after(Slicelet, "verdict", lambda task, words: words.replace("down", "no-lease")),
 )
 HAS = Slicelet.has_key
@@ -1037,7 +1022,7 @@ bug(
     "bridge-beyond-its-keys",
     "A task serves any key by its bridge lease.",
     "move",
-    told("beyond", "served bridge 3", "denied not-owned 3", "bridge 4 until 100, read at 33"),
+    told("beyond", "served bridge 3", "denied not-owned 3"),
     instead(
         Slicelet,
         "has_key",
@@ -1055,7 +1040,7 @@ bug(
     "end-of-a-range-served",
     "A range has its end too.",
     "edges",
-    told("next", "served", "denied not-owned 1", "guard 1 until 95, read at 10"),
+    told("next", "served", "denied not-owned 1"),
     instead(
         Slicelet,
         "has_key",
@@ -1066,7 +1051,7 @@ bug(
     "start-of-a-range-denied",
     "A range does not have its start.",
     "edges",
-    told("first", "denied", "served guard 1") + hint(2, 1, "first"),
+    told("first", "denied", "served guard 1"),
     instead(
         Slicelet,
         "has_key",
@@ -1088,7 +1073,6 @@ bug(
         "other",
         "served guard 1",
         "denied not-owned 2",
-        "guard 3 until 105, bridge 4 until 92, read at 25",
     ),
     instead(actors, "slice_key", hash_otherwise),
 )
@@ -1110,7 +1094,7 @@ bug(
     "no-lease-told-as-not-owned",
     "A task with a lease that has ended says that it does not own the key.",
     "renewal",
-    told("nothing", "denied not-owned 1", "denied no-lease", "guard 3 ended at 140, read at 141"),
+    told("nothing", "denied not-owned 1", "denied no-lease"),
     ground_by(lambda task, at: (lease.generation for lease in task.leases())),
 )
 bug(
@@ -1121,7 +1105,6 @@ bug(
         "other",
         "denied not-owned 1",
         "denied not-owned 2",
-        "guard 3 until 105, bridge 4 until 92, read at 25",
     ),
     ground_by(
         lambda task, at: [it.generation for it in task.leases() if task.is_live(it, at)][:1],
@@ -1131,7 +1114,7 @@ bug(
     "ended-told-as-no-lease",
     "A task says of a lease that has ended that it has none.",
     "renewal",
-    told("ended", "denied no-lease", "denied ended", "guard 3 ended at 140, read at 140"),
+    told("ended", "denied no-lease", "denied ended"),
     after(Slicelet, "ground", lambda task, words: words.replace("ended", "no-lease")),
 )
 
@@ -1157,7 +1140,7 @@ bug(
     "handle-on-any-key",
     "A task gives a handle on a key that it may not serve.",
     "renewal",
-    told("other", "handle life 1 position 2", "denied not-owned 1", "guard 1 until 95, read at 12"),
+    told("other", "handle life 1 position 2", "denied not-owned 1"),
     instead(Slicelet, "hold", hold_any),
 )
 
@@ -1192,7 +1175,7 @@ bug(
     "handle-survives-a-gap",
     "A handle is continuous if the task may serve its key now, though the key was away.",
     "move",
-    told("gap", "continuous", "broken", "{release-1} took its key away"),
+    told("gap", "continuous", "broken"),
     instead(
         Slicelet,
         "is_continuous",
@@ -1204,7 +1187,7 @@ bug(
     "handle-survives-a-life",
     "A handle of an earlier life is continuous.",
     "move",
-    told("life", "continuous", "broken", "{release-1} took its key away"),
+    told("life", "continuous", "broken"),
     instead(
         Slicelet,
         "is_continuous",
@@ -1252,7 +1235,6 @@ bug(
     "renewal",
     told(
         "check", "continuous", "refused not-sent",
-        f'"slice_key" is {HELLO + 1} here, {HELLO} at {{hold}}',
     ),
     before(TaskActor, "play", change_the_handle),
 )
@@ -1269,14 +1251,14 @@ bug(
     "starts-a-life-twice",
     "A task starts its life once more.",
     "denials",
-    told("same", "started 1", "refused old-life", "the task is in life 1"),
+    told("same", "started 1", "refused old-life"),
     instead(Slicelet, "check_life", life_not_below),
 )
 bug(
     "starts-with-a-clock-behind",
     "A life starts at a reading below the last one.",
     "denials",
-    told("begun", "started 2", "refused clock-back", "read at 19 after 20") + hint(1, 1, "begun"),
+    told("begun", "started 2", "refused clock-back"),
     during(Slicelet, "start", check_reading=nothing),
 )
 bug(
@@ -1297,28 +1279,28 @@ bug(
     "lives-not-stored",
     "The lives of a task are not stored, so its next process begins with none.",
     "lives",
-    told("open", "opened 0", "refused old-life", "the task is in life 2"),
+    told("open", "opened 0", "refused old-life"),
     instead(TaskActor, "store", nothing),
 )
 bug(
     "life-stored-too-late",
     "A life is stored when the next one begins.",
     "lives",
-    told("open", "opened 1", "refused old-life", "the task is in life 2"),
+    told("open", "opened 1", "refused old-life"),
     instead(TaskActor, "store", lambda task, life: task.lives.write_text(str(life - 1))),
 )
 bug(
     "life-of-an-earlier-process",
     "A new process of a task starts the last life of the one before.",
     "lives",
-    told("twice", "started 2", "refused old-life", "the task is in life 2"),
+    told("twice", "started 2", "refused old-life"),
     instead(Slicelet, "check_life", life_not_below),
 )
 bug(
     "open-not-logged",
     "A new process of a task begins, and its log does not say so.",
     "lives",
-    told("down", "denied down", "denied clock-back", "read at 13 after 15") + hint(1, 2, "down"),
+    told("down", "denied down", "denied clock-back"),
     lost("task-1", "open", 1),
 )
 bug(
@@ -1332,7 +1314,7 @@ bug(
     "history-without-end",
     "A slicelet accepts more than 65,536 calls.",
     "history",
-    told("full", "started 65537", "refused history-full") + hint(3, 65536, "full"),
+    told("full", "started 65537", "refused history-full"),
     instead(Slicelet, "check_room", nothing),
 )
 
@@ -1404,7 +1386,6 @@ bug(
     "clerks",
     told(
         "proposed", "learnt 2", "refused not-sent",
-        "it is sent later, at {second-commit}, ticket 10",
     ),
     after(LeaseTable, "propose", lambda table, reply: Reply(reply.words, table.proposed)),
 )
@@ -1420,7 +1401,7 @@ bug(
     "A client gets the first slice of an assignment alone.",
     "clerks",
     told(
-        "learn", "learnt 1", "refused not-sent", '"slices" are not those of {above first-commit}'
+        "learn", "learnt 1", "refused not-sent"
     ),
     before(ClientActor, "play", lose_slices),
 )
@@ -1449,14 +1430,14 @@ bug(
     "grant-not-logged",
     "A line of the table is lost: that of a grant.",
     "move",
-    told("hear-2", "heard 2", "refused not-sent", "no line of the logs sends it"),
+    told("hear-2", "heard 2", "refused not-sent"),
     lost("table", "grant", 2),
 )
 bug(
     "release-not-logged",
     "A line of a task is lost: that of a release.",
     "move",
-    told("free-1", "freed 1", "refused not-sent", "no line of the logs sends it"),
+    told("free-1", "freed 1", "refused not-sent"),
     lost("task-1", "release", 1),
 )
 bug(
@@ -1477,14 +1458,14 @@ bug(
     "free-not-logged",
     "A line of the table is lost: that of a note.",
     "move",
-    told("commit", "committed 2", "refused held 1 guard 1", "it ends at 105, read at 25"),
+    told("commit", "committed 2", "refused held 1 guard 1"),
     lost("table", "free", 1),
 )
 bug(
     "start-not-logged",
     "A line of a task is lost: that of a start.",
     "move",
-    told("hear-2", "heard 2", "refused not-started") + unstarted(2),
+    told("hear-2", "heard 2", "refused not-started"),
     lost("task-2", "start", 1),
 )
 bug(
@@ -1505,14 +1486,14 @@ bug(
     "reading-altered",
     "A line has another reading than the call had.",
     "move",
-    told("moved", "served guard 2", "denied ended", "guard 3 ended at 116, read at 128"),
+    told("moved", "served guard 2", "denied ended"),
     in_log("task-2", "serve", 1, with_members(at=128)),
 )
 bug(
     "key-altered",
     "A line has another key than the call had.",
     "move",
-    told("served", "served guard 3", "denied not-owned 3", "guard 5 until 125, read at 37"),
+    told("served", "served guard 3", "denied not-owned 3"),
     in_log("task-1", "serve", 2, with_members(key="abc")),
 )
 bug(
@@ -1540,7 +1521,7 @@ bug(
     "grant-changed-on-the-way",
     "The end of a lease is changed between the table and the task.",
     "move",
-    told("hear-1", "heard 1", "refused not-sent", '"ends" is 145 here, 95 at {grant-1}'),
+    told("hear-1", "heard 1", "refused not-sent"),
     before(TaskActor, "play", raise_the_end),
 )
 bug(
@@ -1643,7 +1624,6 @@ bug(
     "move",
     told(
         "hear-1", "heard 1", "refused not-sent",
-        "it is sent later, at {below first-commit}, ticket 10",
     ),
     late_tickets(["grant"]),
 )
@@ -1665,7 +1645,7 @@ bug(
     "tickets-in-stock",
     "A task draws tickets ahead, and uses the last one first.",
     "move",
-    told("open-1", "opened 0", "refused old-life", "the task is in life 1"),
+    told("open-1", "opened 0", "refused old-life"),
     only_in("task-1", instead(SharedCounter, "draw", draw_in_stock(SharedCounter.draw))),
 )
 bug(
@@ -1674,7 +1654,6 @@ bug(
     "move-clock",
     told(
         "hear-1", "heard 1", "refused not-sent",
-        f"it is sent later, at {{grant-1}}, ticket {(5 + 50) * 1_000_000 * 16}",
     ),
     only_in("table", instead(CommonClock, "read", lambda clock, now: (now + 50) * 1_000_000)),
     instead(CommonClock, "observe", nothing),
@@ -1693,7 +1672,6 @@ bug(
     "move-hybrid",
     told(
         "hear-1", "heard 1", "refused not-sent",
-        f"it is sent later, at {{grant-1}}, ticket {5 * 256 * 16}",
     ),
     only_in("task-1", instead(HybridClock, "observe", nothing)),
 )

@@ -117,7 +117,7 @@ NOTES = LEASES + """
 23   table     free 1                          = first
 24   table     free 1                          = again
 25   task-1    start 2
-26   table     grant 1 2                       = of-life-2
+26   table     grant 1 2
 27   task-1    hear 4                          = hear
 28   task-1    release guard
 29   table     free 2                          = life
@@ -146,7 +146,7 @@ MOVE = LEASES + """
 11   client-1  learn 1                         = learn
 12   client-1  look hello                      = look
 20   table     propose 1 2 0:2
-21   task-1    release guard                   = release-1
+21   task-1    release guard
 22   table     free 1                          = free-1
 23   task-2    release guard                   = release-2
 24   table     free 2
@@ -157,7 +157,7 @@ MOVE = LEASES + """
 28   task-1    serve hello                     = left
 28   task-1    hear 1                          = again
 29   table     propose 1 3 0:1 half:2
-30   table     grant 2 1                       = grant-4
+30   table     grant 2 1
 31   task-2    hear 4                          = bridge
 32   task-2    release guard
 33   table     free 3
@@ -254,7 +254,7 @@ CLERKS = OWNERS + """
 4    client-1  look abc                        = upper
 5    table     propose 1 2 0:2
 5    client-1  learn 2                         = proposed
-6    table     commit 1                        = second-commit
+6    table     commit 1
 7    client-1  learn 2
 8    client-1  learn 1                         = older
 8    client-1  learn 2                         = same
