@@ -2,7 +2,6 @@ pub mod Judged
 pub mod Opening
 pub mod Hinting
 pub mod Counting
-pub mod Compared
 pub mod Breaking
 pub mod Telling
 pub mod Passing

@@ -5,7 +5,6 @@ pub mod Refusals
 pub mod Questions
 -- What is found of the calls of a log.
 pub mod Audited
-pub mod WrongReplies
 pub mod Hints
 -- Who took the calls, and how their replies are judged.
 pub mod Callers

@@ -95,25 +95,3 @@ pub fn find_calls<P: Progress>(
         all_sent: judged.all_sent,
     })
 }
-
-/// Sorts the calls of a log, and finds whether they are one run of the job's machines.
-///
-/// They are one run if each caller got, in the same words, the reply that the machines give after
-/// the calls before.
-///
-/// [`Finding::Double`] comes first: two entries have the same ticket. It names the lowest such
-/// ticket, and the first two entries that have it, in the order in which they were given. Otherwise
-/// [`Finding::Other`] names the first call whose caller got another reply. If memory runs out,
-/// nothing is found.
-pub fn audit_calls<P: Progress>(
-    alloc: Global,
-    start: &Start,
-    entries: &mut Vec<LogEntry>,
-    progress: &mut P,
-) -> Result<Finding, AllocError>
-    ensures same { IsPermutation entries.old.items entries.new.items }
-    ensures stable { IsStableByKey (λ e. e.line.ticket) nat_cmp entries.old.items entries.new.items }
-    ensures found { (job : Continued) → Begins job start.now → IfOk result (IsFound job entries.new.items) }
-{
-    Ok(find_calls(alloc, start, entries, false, progress)?.finding)
-}

@@ -11,7 +11,7 @@ loop-index-init c = λ job begins. record { past = job.earlier; are = (refl, sea
 pub returns-then-len-eq-MOST_WRONG_REPLIES : goal.returns-then-len-eq-MOST_WRONG_REPLIES
 returns-then-len-eq-MOST_WRONG_REPLIES c = λ job begins.
     let known = c.loop-index.invariant job begins in
-    let answered = rw c.in-Some.is at (c.in_ok-answer.ensures job known.past known.played) in
+    let answered = rw c.in-Some.is at (c.in_ok-wanted.ensures job known.past known.played) in
     let more = wrong_more c.args.entries.now c.loop-index.index c.loop-index-test.true c.index-entries-index.result c.index-entries-index.is
     job c.loop-index.replies.items c.in-Some.wanted c.loop-index.machines c.answer.new.machines known answered in
     record {
@@ -27,12 +27,12 @@ pub loop-index-preserved : goal.loop-index-preserved
 loop-index-preserved c = λ job begins.
     let known = c.loop-index.invariant job begins in elim c.match-branch-3.branch [
       | in-Some+in_ok-push+else-len-eq-MOST_WRONG_REPLIES w ↦
-          let answered = rw w.in-Some.is at (c.in_ok-answer.ensures job known.past known.played) in
+          let answered = rw w.in-Some.is at (c.in_ok-wanted.ensures job known.past known.played) in
           rw (w.replies-is, w.in_ok-push.ensures.items)
           (wrong_more c.args.entries.now c.loop-index.index c.loop-index-test.true c.index-entries-index.result c.index-entries-index.is
           job c.loop-index.replies.items w.in-Some.wanted c.loop-index.machines c.answer.new.machines known answered)
       | in_default w ↦
-          let answered = rw w.in_default.is at (c.in_ok-answer.ensures job known.past known.played) in
+          let answered = rw w.in_default.is at (c.in_ok-wanted.ensures job known.past known.played) in
           rw w.replies-is
           (right_more c.args.entries.now c.loop-index.index c.loop-index-test.true c.index-entries-index.result c.index-entries-index.is
           job c.loop-index.replies.items c.loop-index.machines c.answer.new.machines known answered)
