@@ -1,4 +1,4 @@
-"""Traces for tests: of scripts by `hourstable trace`, and of logs by its stand-in; and what is to be shown of them.
+"""Traces for tests, by `hourstable trace` and by its stand-in; and what is to be shown of them.
 
 tests/stored/shown has what hourstable-show is to write, as the proved programs of earlier versions wrote it:
 
@@ -20,6 +20,7 @@ import subprocess
 import sys
 from collections.abc import Iterable
 from pathlib import Path
+from typing import TypeAlias
 
 import needed
 
@@ -34,9 +35,10 @@ SHOWN = TOP / "tests/stored/shown"
 NAME = re.compile(r"^== (.*)\n", re.MULTILINE)
 TORN = re.compile(r"^hourstable: (.*):(\d+): a last line without its end was left out$", re.MULTILINE)
 SECONDS = 120
+Ran: TypeAlias = "subprocess.CompletedProcess[bytes]"
 
 
-def proved(*words: str, cwd: Path = TOP, given: bytes = b"") -> "subprocess.CompletedProcess[bytes]":
+def proved(*words: str, cwd: Path = TOP, given: bytes = b"") -> Ran:
     """Runs the proved program."""
     return subprocess.run(
         [needed.program(), *words], cwd=cwd, input=given, capture_output=True, check=False, timeout=SECONDS
@@ -64,11 +66,16 @@ def of_script(path: Path, key: str | None = None) -> list[Members]:
     return [json.loads(line) for line in ran.stdout.splitlines()] if ran.returncode == 0 else []
 
 
-def of_logs(folder: Path, names: list[str], key: int | None = None, drift: str | None = None) -> list[Members]:
+def of_logs(folder: Path, names: list[str], *options: str, given: bytes = b"") -> list[Members]:
     """Returns the lines of the trace of logs; none if they are refused."""
+    ran = proved("trace", *options, "--logs", *names, cwd=folder, given=given)
+    return [json.loads(line) for line in ran.stdout.splitlines()] if ran.returncode < 2 else []
+
+
+def stood_in(folder: Path, names: list[str], key: int | None = None, drift: str | None = None) -> list[Members]:
+    """Returns the lines of the trace of logs that are not refused, by the stand-in."""
     ran = proved("audit", *names, cwd=folder)
-    if ran.returncode > 1:
-        return []
+    assert ran.returncode in (0, 1), ran.stderr
     found = TORN.findall(ran.stderr.decode())
     torn = [frozenset(int(line) for log, line in found if log == name) for name in names]
     texts = [(folder / name).read_bytes() for name in names]
@@ -87,21 +94,10 @@ def keys_of(path: Path) -> list[str]:
     return sorted({it["key"] for it in steps if it.get("do") in ("serve", "hold", "look")})
 
 
-def stand_in(folder: Path) -> dict[str, str]:
-    """Makes a program whose `trace` takes logs too, and returns the environment in which hourstable-show runs it."""
-    program = folder / "hourstable"
-    program.write_text(f'#!/bin/sh\nexec "{sys.executable}" -B -m stand_in.program "$@"\n', encoding="utf-8")
-    program.chmod(0o755)
-    path = f"{TOP / 'python'}:{TOP / 'python/tests'}"
-    named = {"HOURSTABLE_PROVED": needed.program(), "HOURSTABLE_PROGRAM": str(program), "PYTHONPATH": path}
-    return {**os.environ, **named, "PYTHONDONTWRITEBYTECODE": "1"}
-
-
-def show(
-    environment: dict[str, str], *words: str, cwd: Path = TOP, given: bytes = b""
-) -> "subprocess.CompletedProcess[bytes]":
-    """Runs hourstable-show."""
+def show(*words: str, program: str | None = None, cwd: Path = TOP, given: bytes = b"") -> Ran:
+    """Runs hourstable-show over the proved program, or over another one."""
+    named = {"HOURSTABLE_PROGRAM": program or needed.program(), "PYTHONPATH": str(TOP / "python")}
     return subprocess.run(
         [sys.executable, "-B", "-m", "hourstable.show", *words], cwd=cwd, input=given, capture_output=True,
-        check=False, env=environment, timeout=SECONDS,
+        check=False, env={**os.environ, **named}, timeout=SECONDS,
     )

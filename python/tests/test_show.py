@@ -14,7 +14,7 @@ needed.library()
 from hourstable.library import slice_key  # noqa: E402
 from hourstable.show import pictures, report, sentences, trace, views  # noqa: E402
 from showing import (  # noqa: E402
-    COMMANDS, SCRIPTS, SHOWN, TOP, names_in, of_logs, of_script, read, show, stand_in, stored, stored_texts,
+    COMMANDS, SCRIPTS, SHOWN, TOP, names_in, of_logs, of_script, read, show, stored, stored_texts,
 )
 from stand_in.tasks import Members  # noqa: E402
 
@@ -25,7 +25,7 @@ REPORTS = stored_texts("bugs.txt")  # of examples/audit
 BUGS = stored_texts("bugs-explained.txt")  # each kind of cause and hint
 NUMBER = re.compile(r"^\d+ \w+: ", re.MULTILINE)
 FENCED = re.compile(r"^fenced .*\n", re.MULTILINE)
-HELLO = slice_key(b"hello")
+OF_HELLO = f"--slice-key={slice_key(b'hello')}"
 
 
 def played() -> list[str]:
@@ -88,68 +88,44 @@ def as_written(name: str) -> tuple[str, str, int]:
     return it.get("stdout", ""), it.get("stderr", ""), it["status"]
 
 
-def shown(folder: Path, tmp_path: Path, name: str) -> tuple[str, str, int]:
+def shown(folder: Path, name: str) -> tuple[str, str, int]:
     """Plays a stored command line by hourstable-show. Its own messages begin with its own name."""
     words = LINES[name]["words"]
     words = [{"audit": "report"}.get(words[0], words[0]), *words[1:]]
-    ran = show(stand_in(tmp_path), *words, cwd=folder, given=LINES[name].get("stdin", "").encode())
+    ran = show(*words, cwd=folder, given=LINES[name].get("stdin", "").encode())
     errors = re.sub(r"^hourstable-show: ", "hourstable: ", ran.stderr.decode(), flags=re.MULTILINE)
     return ran.stdout.decode(), errors, ran.returncode
 
 
 @pytest.mark.parametrize("name", [name for name, it in LINES.items() if it["words"][0] != "audit"])
-def test_a_command_line_shows_what_is_stored(folder: Path, tmp_path: Path, name: str) -> None:
-    assert shown(folder, tmp_path, name) == as_written(name)
+def test_a_command_line_shows_what_is_stored(folder: Path, name: str) -> None:
+    assert shown(folder, name) == as_written(name)
 
 
 @pytest.mark.parametrize("name", [
     "audit-two-files", "audit-dash", "audit-torn-last-line", "audit-all", "audit-drift-broken", "audit-not-json",
-    "audit-missing-log", "audit-two-jobs",
+    "audit-missing-log", "audit-two-jobs", "audit-from-a-state",
 ])
-def test_a_command_line_reports_what_is_stored(folder: Path, tmp_path: Path, name: str) -> None:
-    assert shown(folder, tmp_path, name) == as_written(name)
+def test_a_command_line_reports_what_is_stored(folder: Path, name: str) -> None:
+    assert shown(folder, name) == as_written(name)
 
 
-def of_files() -> list[str]:
-    """Returns the stored audits that judge files from the first call on: the stand-in goes on from no state."""
-    found = {name: it["words"] for name, it in LINES.items() if it["words"][0] == "audit" and it["status"] < 2}
-    return [name for name, words in found.items() if not {"-", "--from"}.intersection(words)]
-
-
-@pytest.mark.parametrize("name", of_files())
+@pytest.mark.parametrize("name", [
+    name for name, it in LINES.items() if it["words"][0] == "audit" and it["status"] < 2
+])
 def test_a_report_is_what_is_stored(name: str) -> None:
-    words = LINES[name]["words"][1:]
-    drift = None
-    if "--drift" in words:
-        place = words.index("--drift")
-        drift, words = words[place + 1], words[:place] + words[place + 2:]
-    names = [it for it in words if not it.startswith("--")]
-    found = read(of_logs(COMMANDS, names, drift=drift))
+    line = LINES[name]
+    options, names = options_in(line["words"][1:])
+    found = read(of_logs(COMMANDS, names, *options, "--no-calls", given=line.get("stdin", "").encode()))
     wanted = FENCED.sub("", as_written(name)[0])  # a trace does not tell writes to stores
-    assert report.report(found, every="--all" in words) == wanted
+    assert report.report(found, every="--all" in line["words"]) == wanted
 
 
-LATER = re.compile(r"steps (\d+)\ncalls table (\d+)(.*)\ntimely no: (\S+):(\d+) read (\d+), the table read (\d+)")
-
-
-def test_a_report_goes_on_from_earlier_logs() -> None:
-    # The stand-in goes on from no state, so these are what a trace says of stored audits that do.
-    text = as_written("audit-from-a-later-reading")[0]
-    found = LATER.search(text)
-    assert found, text
-    steps, table, counts, log, line, late, early = found.groups()
-    tasks = [list(map(int, it)) for it in re.findall(r"task (\d+) (\d+)", counts)]
-    clerks = [list(map(int, it)) for it in re.findall(r"clerk (\d+) (\d+)", counts)]
-    task = {"call": 1, "log": 0, "line": int(line), "at": late}
-    end: Members = {
-        "calls": int(steps), "verdict": "one", "counts": {"table": int(table), "tasks": tasks, "clerks": clerks},
-        "untimely": {"task": task, "first": {"at": early}, "greatest": {"at": early}},
-    }
-    lines: list[Members] = [{"trace": 1, "of": "logs", "job": {"skew": 10}, "logs": [log]}, {"end": end}]
-    assert report.report(read(lines)) == text
-    end["forgotten"] = True
-    last = as_written("audit-from-a-state-not-sent")[0].splitlines()[-1]
-    assert report.report(read(lines)).splitlines()[-1] == last
+def options_in(words: list[str]) -> tuple[list[str], list[str]]:
+    """Returns the options of an audit that its trace has too, and the names of its logs."""
+    options = [f"{word}={words[place + 1]}" for place, word in enumerate(words) if word in ("--drift", "--from")]
+    after = {word for option in options for word in option.split("=")}
+    return options, [it for it in words if it not in after and it not in ("--strict", "--all", "--progress")]
 
 
 # THE AUDITED EXAMPLE
@@ -185,7 +161,7 @@ def test_logs_of_a_bug_are_explained(bug_logs: Path, bug: str) -> None:
 def test_logs_of_a_bug_are_drawn(bug_logs: Path, name: str) -> None:
     bug, _, key = name.partition(".")
     folder = bug_logs / bug
-    found = read(of_logs(folder, names_in(folder), HELLO if key else None))
+    found = read(of_logs(folder, names_in(folder), *([OF_HELLO] if key else [])))
     assert pictures.log_picture(found, whole(found), not key) == stored(f"bugs/{name}.svg")
 
 
@@ -194,7 +170,7 @@ def test_calls_around_a_line_are_explained(bug_logs: Path, name: str) -> None:
     bug, _, place = name.partition(" ")
     folder = bug_logs / bug
     names = names_in(folder)
-    found = read(of_logs(folder, names, HELLO))
+    found = read(of_logs(folder, names, OF_HELLO))
     window = views.window_of(found, views.view_of(tuple(names), place, None))
     assert window is not None
     assert explained(found, window) == stored_texts("bugs-around.txt")[name]
@@ -222,50 +198,48 @@ def test_lines_of_other_kinds_are_passed_over() -> None:
     assert sentences.explained(read(lines), numbered=False) == "timely yes\n"
 
 
-def test_a_trace_is_read_from_a_pipe(tmp_path: Path) -> None:
+def test_a_trace_is_read_from_a_pipe() -> None:
     name = "bridge-carries-a-key-over-a-change"
     path = SCRIPTS / f"{name}.json"
     text = "".join(f"{json.dumps(it)}\n" for it in of_script(path, "abc")).encode()
-    environment = stand_in(tmp_path)
-    ran = show(environment, "timeline", "--trace", "-", given=text)
+    ran = show("timeline", "--trace", "-", given=text)
     assert (ran.returncode, ran.stderr) == (0, b"")
     assert ran.stdout.decode() == stored(f"scripts/{name}.abc.svg")
-    cut = show(environment, "explain", "--trace", "-", given=text[:-40])
+    cut = show("explain", "--trace", "-", given=text[:-40])
     assert cut.returncode == 3 and cut.stderr.startswith(b"hourstable-show: the trace cannot be read: "), cut
-    report_of = show(environment, "report", "--trace", "-", given=text)
+    report_of = show("report", "--trace", "-", given=text)
     assert (report_of.returncode, report_of.stdout) == (2, b"")
     assert report_of.stderr == b"hourstable-show: error: the trace is of a script, and a report is of logs\n"
-    part_of = show(environment, "explain", "--readings", "0..5", "--trace", "-", given=text)
+    part_of = show("explain", "--readings", "0..5", "--trace", "-", given=text)
     assert (part_of.returncode, part_of.stdout) == (2, b"")
     assert part_of.stderr.startswith(b"hourstable-show: error: the trace is of a script, and --around")
-    both = show(environment, "explain", "--trace", "-", str(path), given=text)
+    both = show("explain", "--trace", "-", str(path), given=text)
     assert both.returncode == 2 and b"--trace is given alone" in both.stderr
 
 
 def test_a_page_is_written_beside_the_report(folder: Path, tmp_path: Path) -> None:
-    page, environment = tmp_path / "page.html", stand_in(tmp_path)
-    ran = show(environment, "timeline", f"--html={page}", "--logs", "served-at-the-deadline.jsonl", cwd=folder)
+    page = tmp_path / "page.html"
+    ran = show("timeline", f"--html={page}", "--logs", "served-at-the-deadline.jsonl", cwd=folder)
     assert (ran.returncode, ran.stdout) == (1, b"")
     assert ran.stderr.decode() == as_written("audit-served-at-the-deadline")[0]
     assert page.read_text(encoding="utf-8").startswith("<!DOCTYPE html>")
-    lost = show(environment, "timeline", f"--html={tmp_path}", "--logs", "hand-over.jsonl", cwd=folder)
+    lost = show("timeline", f"--html={tmp_path}", "--logs", "hand-over.jsonl", cwd=folder)
     assert lost.returncode == 3 and b"Is a directory" in lost.stderr
 
 
 def test_there_must_be_a_program(tmp_path: Path) -> None:
-    environment = {**stand_in(tmp_path), "HOURSTABLE_PROGRAM": str(tmp_path / "nothing")}
-    ran = show(environment, "explain")
+    ran = show("explain", program=str(tmp_path / "nothing"))
     assert ran.returncode == 3 and b"No such file or directory" in ran.stderr, ran
 
 
-def test_a_call_without_its_members_is_refused(tmp_path: Path) -> None:
+def test_a_call_without_its_members_is_refused() -> None:
     lines: list[Members] = [
         {"trace": 1, "of": "logs", "job": {"skew": 0, "tasks": 1, "clerks": 1}, "logs": ["it.jsonl"]},
         {"call": 1, "log": 0, "line": 2, "do": "renew", "at": "5", "reply": {"refused": "not-holder", "number": "0"}},
         {"end": {"calls": 1, "verdict": "one"}},
     ]
     text = "".join(f"{json.dumps(it)}\n" for it in lines).encode()
-    ran = show(stand_in(tmp_path), "explain", "--trace", "-", given=text)
+    ran = show("explain", "--trace", "-", given=text)
     assert (ran.returncode, ran.stdout) == (3, b"")
     assert ran.stderr == (
         b"hourstable-show: the trace cannot be read: call 1 lacks a member, or has one of another kind:"
@@ -274,8 +248,8 @@ def test_a_call_without_its_members_is_refused(tmp_path: Path) -> None:
 
 
 def test_what_ends_with_a_failure_of_the_program_has_its_status(tmp_path: Path) -> None:
-    environment = stand_in(tmp_path)
     program = tmp_path / "hourstable"
     program.write_text("#!/bin/sh\necho 'hourstable: out of memory' >&2\nexit 3\n", encoding="utf-8")
-    ran = show(environment, "explain")
+    program.chmod(0o755)
+    ran = show("explain", program=str(program))
     assert (ran.returncode, ran.stdout, ran.stderr) == (3, b"", b"hourstable: out of memory\n")

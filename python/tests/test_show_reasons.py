@@ -219,6 +219,6 @@ def test_stretches_of_random_scripts_are_where_a_key_is_served(tmp_path: Path) -
 def test_each_process_of_a_task_has_its_stretches() -> None:
     names = list(LOGS[2])
     key = next(it.slice_key for it in read(of_logs(COMMANDS, names)).calls if it.slice_key is not None)
-    trace = read(of_logs(COMMANDS, names, key))
+    trace = read(of_logs(COMMANDS, names, f"--slice-key={key}"))
     check_stretches(trace)
     assert {it.process for it in trace.stretches} >= {1, 2}

@@ -28,6 +28,7 @@ from test_show import played  # noqa: E402
 from test_show_reasons import random_traces  # noqa: E402
 
 HELLO = slice_key(b"hello")
+OF_HELLO = f"--slice-key={HELLO}"
 MOVE = ["move-table.jsonl", "move-task-1.jsonl", "move-task-2.jsonl", "move-client.jsonl"]
 HOSTILE = "</script><img src=x onerror=document.title='owned'>.jsonl"
 JOB = {"redundancy": 1, "skew": 0, "guard": 10_000, "bridge": 10_000, "job": 30_000, "numbers": 1 << 32,
@@ -122,13 +123,13 @@ async def picture(tab: browser.Tab, folder: Path, name: str) -> None:
 
 
 def test_a_page_loads_nothing() -> None:
-    text = page_of(read(of_logs(COMMANDS, MOVE, HELLO)))
+    text = page_of(read(of_logs(COMMANDS, MOVE, OF_HELLO)))
     page = Loaded()
     page.feed(text)
     assert page.found == []
     policy = page.policy.split("; ")
     assert policy[0] == "default-src 'none'" and len(policy) == 3 and "unsafe" not in page.policy
-    assert text == page_of(read(of_logs(COMMANDS, MOVE, HELLO))), "the same trace makes another page"
+    assert text == page_of(read(of_logs(COMMANDS, MOVE, OF_HELLO))), "the same trace makes another page"
 
 
 def test_generations_are_bands_from_one_commit_to_the_next() -> None:
@@ -145,7 +146,7 @@ def test_generations_are_bands_from_one_commit_to_the_next() -> None:
 
 
 async def test_it_opens_at_the_fault(tmp_path: Path) -> None:
-    found = read(of_logs(COMMANDS, ["served-at-the-deadline.jsonl"], HELLO))
+    found = read(of_logs(COMMANDS, ["served-at-the-deadline.jsonl"], OF_HELLO))
     async with opened(tmp_path / "page.html", page_of(found)) as tab:
         assert await told(tab, "reply") == 'told "served guard 1"; should be "denied ended"'
         why = await told(tab, "why")
@@ -171,7 +172,7 @@ async def test_without_a_fault_there_is_no_button_for_it(tmp_path: Path) -> None
 
 
 async def test_it_zooms_and_moves(tmp_path: Path) -> None:
-    async with opened(tmp_path / "page.html", page_of(read(of_logs(COMMANDS, MOVE, HELLO)))) as tab:
+    async with opened(tmp_path / "page.html", page_of(read(of_logs(COMMANDS, MOVE, OF_HELLO)))) as tab:
         first = await span(tab)
         await key(tab, "+")
         nearer = await span(tab)

@@ -16,16 +16,13 @@ needed.library()
 
 import random_logs  # noqa: E402
 from hourstable.library import slice_key  # noqa: E402
-from showing import COMMANDS, names_in, of_logs, proved, stored, stored_texts  # noqa: E402
+from showing import COMMANDS, names_in, proved, stood_in, stored, stored_texts  # noqa: E402
 from stand_in.tasks import Members  # noqa: E402
 
 LINES = [json.loads(line) for line in stored("commands.jsonl").splitlines()]
 AUDITED = {it["name"]: it["words"][1:] for it in LINES if it["words"][0] == "audit" and it["status"] < 2}
 OF_CALLS = ("call", "stretch", "broken")  # lines that --no-calls leaves out
 BUGS = stored_texts("bugs.txt")  # of examples/audit
-pytestmark = pytest.mark.skipif(
-    b"--logs" not in proved("trace", "--help").stdout, reason="`hourstable trace` takes no logs yet"
-)
 MANY_CALLS = "history-without-end"
 
 
@@ -42,7 +39,7 @@ def traced(folder: Path, names: list[str], *words: str) -> list[Members]:
 
 def check(folder: Path, names: list[str], key: int | None = None, drift: str | None = None) -> list[Members]:
     """Fails if lines differ, with calls or without. Returns them."""
-    due: list[Members] = json.loads(json.dumps(of_logs(folder, names, key, drift)))
+    due: list[Members] = json.loads(json.dumps(stood_in(folder, names, key, drift)))
     options = [] if drift is None else [f"--drift={drift}"]
     keyed = [] if key is None else [f"--slice-key={key}"]
     for found, wanted in zip(traced(folder, names, *options, *keyed), due, strict=True):

@@ -92,8 +92,8 @@ class Causes:
         return {"later": {**self.refer(found + 1), "ticket": str(self.entries[found].ticket)}}
 
     def other(self, found: int, member: str, here: object = None, there: object = None) -> Members:
-        values = {} if here is None else {"here": here, "there": there}
-        return {"other": self.refer(found + 1), "member": member, **written(values)}
+        values = {} if here is None else {"here": str(here), "there": str(there)}
+        return {"other": self.refer(found + 1), "member": member, **values}
 
     def before(self, index: int, sends: Sends) -> int | None:
         return first(self.entries, range(index), sends)

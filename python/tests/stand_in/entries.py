@@ -36,7 +36,7 @@ def with_numbers(found: Members) -> Members:
 
 
 def slices_of(found: list[Any]) -> list[tuple[int, list[int]]]:
-    return [(int(start), list(owners)) for start, owners in found]
+    return [(int(start), sorted(owners)) for start, owners in found]
 
 
 def joined(ranges: list[Any]) -> list[tuple[int, int]]:

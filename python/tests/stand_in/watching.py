@@ -83,19 +83,19 @@ class Stretches:
 
 
 class Handles:
-    """The first reading at which each handle is broken."""
+    """The first reading at which each handle is broken, by the calls of the process that gave it."""
 
     def __init__(self, machines: Machines) -> None:
         self.machines = machines
         self.breaks: list[int] = []
-        self.taken: list[int] = []
+        self.taken: list[tuple[int, int]] = []  # by which process, at which reading
         self.is_broken: list[bool] = []
 
     def hold(self, at: int) -> None:
         """Sees that the last handle was taken at a reading."""
         handle = self.machines.handles[-1]
         task = self.machines.tasks[handle["task"]]
-        self.taken.append(at)
+        self.taken.append((task.process, at))
         self.breaks.append(task.serving_end(int(handle["slice_key"]), at))
         self.is_broken.append(False)
 
@@ -103,9 +103,10 @@ class Handles:
         """Sees what a task knows after it accepted a call."""
         task = self.machines.tasks[number]
         for index, handle in enumerate(self.machines.handles):
-            if self.is_broken[index] or handle["task"] != number:
+            process, taken = self.taken[index]
+            if self.is_broken[index] or handle["task"] != number or process != task.process:
                 continue
-            first = max(self.taken[index], task.last)
+            first = max(taken, task.last)
             if task.keeps(handle, first):
                 self.breaks[index] = task.serving_end(int(handle["slice_key"]), first)
             else:
