@@ -20,7 +20,7 @@ pub record AreWrongRepliesTo (job : Continued) (made : List LogEntry) (replies :
   pub played : HavePlayed job past machines
 
 -- a call whose caller should have been told this
-pub wrong_at : ℕ → CallerReply → WrongReply
+abbrev pub wrong_at : ℕ → CallerReply → WrongReply
 wrong_at index wanted = record { index = index; wanted = wanted }
 
 module _ (entries : List LogEntry) (i : ℕ) (low : i < length entries) (entry : LogEntry) (here : entry ≡ get_or entries i entry) where

@@ -157,12 +157,12 @@ pub record AreTraceFlags (no_calls : Bool) (rows : List Row) (flags : TraceFlags
 abbrev pub IsLogTrace : List Text → Bool → List Row → Asked → Type 0
 IsLogTrace logs no_calls rows (asked.Trace names flags) =
     (map (λ n. n.now) names.items ≡ with_first (first_of (codes "from") rows) logs) × AreTraceFlags no_calls rows flags
-IsLogTrace logs no_calls rows _ = ⊥
+IsLogTrace _ _ _ _ = ⊥
 
 -- nothing is done: this script is given beside logs
 abbrev pub IsBeside : Text → Asked → Type 0
 IsBeside file (asked.Misused (misuse.ScriptAndLogs given)) = given.now ≡ file
-IsBeside file _ = ⊥
+IsBeside _ _ = ⊥
 
 -- logs, unless a script is given too
 abbrev pub IsOfLogs : List Text → Bool → List Row → Asked → Type 0
