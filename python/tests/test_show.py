@@ -4,6 +4,7 @@ import json
 import re
 import shutil
 from pathlib import Path
+from xml.etree import ElementTree
 
 import pytest
 
@@ -225,6 +226,19 @@ def test_a_page_is_written_beside_the_report(folder: Path, tmp_path: Path) -> No
     assert page.read_text(encoding="utf-8").startswith("<!DOCTYPE html>")
     lost = show("timeline", f"--html={tmp_path}", "--logs", "hand-over.jsonl", cwd=folder)
     assert lost.returncode == 3 and b"Is a directory" in lost.stderr
+
+
+def test_markup_in_a_key_stays_text(tmp_path: Path) -> None:
+    key = "</text><script>alert(1)</script>&\"'\u202e\x1b]]>"
+    job = {"redundancy": 1, "skew": 10, "guard": 100, "bridge": 100, "job": 1000, "numbers": 1000, "assigners": 1}
+    steps = [{"do": "start", "task": 1, "life": 1, "at": 1}, {"do": "serve", "task": 1, "key": key, "at": 2}]
+    script = json.dumps([{"job": {**job, "tasks": 1, "clerks": 1}}, *steps]).encode()
+    picture = show("timeline", f"--key={key}", given=script)
+    assert (picture.returncode, picture.stderr) == (0, b"")
+    assert not [it for it in ElementTree.fromstring(picture.stdout).iter() if it.tag.endswith("script")]
+    page = tmp_path / "page.html"
+    assert show("timeline", f"--key={key}", f"--html={page}", given=script).returncode == 0
+    assert "alert(1)</script>" not in page.read_text(encoding="utf-8")
 
 
 def test_there_must_be_a_program(tmp_path: Path) -> None:
