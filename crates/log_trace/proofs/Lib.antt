@@ -6,3 +6,4 @@ pub mod Owning
 pub mod Playing
 pub mod Telling
 pub mod Unmoved
+pub mod Watched

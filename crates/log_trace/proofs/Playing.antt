@@ -36,9 +36,9 @@ module _ (entries : List LogEntry) (i : ℕ) (entry : LogEntry) (low : i < lengt
   before_are : length (reverse (take i entries)) ≡ i
   before_are = length-reverse (take i entries) ∙ length-take-le i entries (omega (arith, low))
 
-  module _ (job : Continued) (past after : Past) (placed placed_after : List Placed) (at : AreMadeAt i past placed after placed_after) where
-    made_at : AreMadeAt (length (reverse (take i entries))) past placed after placed_after
-    made_at = subst (λ (n : ℕ). AreMadeAt n past placed after placed_after) (sym before_are) at
+  module _ (job : Continued) (past after : Past) (placed placed_after : List Placed) (at : AreMadeAt (i + 1) past placed after placed_after) where
+    made_at : AreMadeAt (length (reverse (take i entries)) + 1) past placed after placed_after
+    made_at = subst (λ (n : ℕ). AreMadeAt (n + 1) past placed after placed_after) (sym before_are) at
 
     -- the calls of one entry more
     pub calls_more : (told : CallerReply) → StandsFor (job_in job) past entry.line.call told after → AreCallsAt job (reverse (take i entries)) placed past
@@ -57,7 +57,7 @@ module _ (entries : List LogEntry) (i : ℕ) (entry : LogEntry) (low : i < lengt
 
 -- the same by the entry at the index
 module _ (entries : List LogEntry) (i : ℕ) (entry : LogEntry) (low : i < length entries) (here : slice_get entries i ≡ Some entry) where
-  pub lines_more_at : (job : Continued) (past after : Past) (placed placed_after : List Placed) → AreMadeAt i past placed after placed_after → (all : List LogLine) (line : LogLine)
+  pub lines_more_at : (job : Continued) (past after : Past) (placed placed_after : List Placed) → AreMadeAt (i + 1) past placed after placed_after → (all : List LogLine) (line : LogLine)
       → IsLine job entries i entry past placed after line → AreLines job entries (reverse (take i entries)) past placed (reverse all)
       → AreLines job entries (reverse (take (i + 1) entries)) after placed_after (reverse (all ++ line ∷ []))
   lines_more_at job past after placed placed_after at all line tells lines =

@@ -11,7 +11,7 @@ use Rattle.log_trace.specs.declared.tracer.LogTracer.{LogTracer}
 use Rattle.log_trace.specs.Calls.{AreCallsAt, AreMadeAt}
 use Rattle.log_trace.specs.Lines.{IsLine, readings_before}
 
--- a tracer has played these entries, each with its calls at its index
+-- a tracer has played these entries, each with its calls at its number
 pub record IsTracing (job : Continued) (entries : List LogEntry) (past : Past) (placed : List Placed) (tracer : LogTracer) : Type 0 where
   pub calls : AreCallsAt job (reverse entries) placed past
   pub played : HavePlayed job past tracer.machines
@@ -26,5 +26,5 @@ pub record IsTracedAt (job : Continued) (entries : List LogEntry) (index : ℕ) 
   pub after : Past
   pub placed_after : List Placed
   pub tells : IsLine job entries index entry past placed after line
-  pub at : AreMadeAt index past placed after placed_after
+  pub at : AreMadeAt (index + 1) past placed after placed_after
   pub tracing : IsTracing job (take (index + 1) entries) after placed_after tracer

@@ -1,5 +1,5 @@
 -- The trace of a log.
-use Rattle.std.specs.Prelude.{◌≡◌, ◌⊎◌, ℕ, List, [], ◌∷◌, length, reverse, take, if◌then◌else◌}
+use Rattle.std.specs.Prelude.{◌≡◌, ◌⊎◌, ℕ, ◌+◌, List, [], ◌∷◌, length, reverse, take, if◌then◌else◌}
 use Rattle.cluster.specs.Pasts.{Past}
 use Rattle.cluster.specs.continued.Jobs.{Continued}
 use Rattle.cluster.specs.continued.Runs.{IsRun}
@@ -16,7 +16,7 @@ abbrev pub AreLines : Continued → List LogEntry → List LogEntry → Past →
 AreLines job entries [] past placed [] = (past ≡ job.earlier) × (placed ≡ [])
 AreLines job entries (entry ∷ before) past placed (line ∷ lines) =
     (earlier : Past) × (placed_before : List Placed) × IsLine job entries (length before) entry earlier placed_before past line
-    × AreMadeAt (length before) earlier placed_before past placed × AreLines job entries before earlier placed_before lines
+    × AreMadeAt (length before + 1) earlier placed_before past placed × AreLines job entries before earlier placed_before lines
 AreLines job entries _ past placed _ = ⊥
 
 -- the lines before the first one whose caller was told otherwise

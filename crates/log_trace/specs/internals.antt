@@ -1,3 +1,4 @@
 pub mod Making
+pub mod Taking
 pub mod Tracing
 pub mod Watching

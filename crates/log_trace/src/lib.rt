@@ -11,11 +11,14 @@ mod making;
 mod owners;
 mod placing;
 mod serving;
+mod takings;
 mod trace;
 mod tracer;
 mod unsent;
 
+pub use breaking::BrokenHandle;
 pub use line::LogLine;
 pub use serving::{LogServing, serving_of};
+pub use takings::{Taking, Takings};
 pub use trace::{LogTrace, log_trace_of};
 pub use tracer::LogTracer;

@@ -6,10 +6,11 @@ use reasons::Reason;
 
 /// A call of logs that was played, and what decides its reply.
 ///
-/// Places are indices of entries, in the order of the tickets.
+/// Entries are named by their indices, in the order of the tickets. The reason alone names a call by
+/// its number from 1, which is the index of its entry plus 1.
 #[derive(Drop)]
 pub struct LogLine {
-    /// The place of the call.
+    /// The index of the entry.
     pub index: usize,
     /// The right reply: what the machines answer after the calls before it.
     pub reply: CallerReply,
@@ -18,8 +19,8 @@ pub struct LogLine {
     /// The values of the machines just before the call; `None` if the call and the reply say
     /// everything.
     pub reason: Option<Reason>,
-    /// Of a broken handle: the place of the first call after which a check of it, at the last reading
-    /// of its task, would have found it broken. `None` if no call before this one broke it.
+    /// Of a broken handle: the index of the first entry after whose call a check of it, at the last
+    /// reading of its task, would have found it broken. `None` if no call before this one broke it.
     pub first_taking: Option<usize>,
     /// Of what nothing sent before: why. `None` if it is a handle, and the log does not say which
     /// handles on its key were given.

@@ -7,6 +7,7 @@ ghost use Rattle.log_trace.specs.Traces.{AreToldIn, IsTraceOf};
 ghost use Rattle.log_trace.specs.declared.line.LogLine.{LogLine as Line};
 
 use crate::line::LogLine;
+use crate::takings::Takings;
 use crate::tracer::LogTracer;
 use log_causes::MOST_WRONG_REPLIES;
 use log_line::LogEntry;
@@ -49,12 +50,13 @@ pub fn log_trace_of(
 ) -> Result<LogTrace, AllocError>
     ensures { (job : Continued) → Begins job start.now → IfOk result (IsTraceOf job entries.now) }
 {
+    let takings = Takings::of(alloc, start, entries)?;
     let mut tracer = LogTracer::new(alloc, start)?;
     let lines = Vec::new(alloc);
     let faults = Vec::new(alloc);
     let mut trace = LogTrace { lines, faults };
     for index in 0..entries.len() {
-        let line = tracer.next(start, entries, index)?;
+        let line = tracer.next(start, &takings, entries, index)?;
         trace.add(line)?;
         if trace.faults.len() == MOST_WRONG_REPLIES {
             tracer.run_law();

@@ -8,12 +8,14 @@ ghost use Rattle.cluster.specs.continued.Runs.{IsRun};
 ghost use Rattle.log_line.specs.declared.entry.LogEntry.{LogEntry as Entry};
 ghost use Rattle.reasons.specs.Placed.{Placed};
 ghost use Rattle.log_run.specs.Starts.{Begins};
+ghost use Rattle.log_trace.specs.Takings.{AreTakings};
 ghost use Rattle.log_trace.specs.Tracers.{IsTracedAt, IsTracing};
 
 use crate::breaking::taken_first;
 use crate::line::LogLine;
 use crate::making::{MadeCall, make_call};
 use crate::owners::{foreign_in, not_owner_of};
+use crate::takings::Takings;
 use crate::unsent::unsent_of;
 use cluster::Cluster;
 use log_line::{LogEntry, is_worded};
@@ -67,16 +69,18 @@ impl LogTracer {
     /// Plays the entry at `index`, which is the next one, and tells of it.
     ///
     /// `entries` are all entries of the log in the order of their tickets: what nothing sent before a
-    /// call may be sent by a later one. The only error is out of memory. After it the tracer is not
+    /// call may be sent by a later one. `takings` are theirs. The only error is out of memory. After it the tracer is not
     /// to be used.
     pub fn next(
         &mut self,
         start: &Start,
+        takings: &Takings,
         entries: &[LogEntry],
         index: usize,
     ) -> Result<LogLine, AllocError>
         requires { index < length entries.now }
-        ensures { (job : Continued) (past : Past) (placed : List Placed) → Begins job start.now → IsTracing job (take index entries.now) past placed self.old
+        ensures { (job : Continued) (past : Past) (placed : List Placed) → Begins job start.now → AreTakings job entries.now takings.now
+            → IsTracing job (take index entries.now) past placed self.old
             → IfOk result (λ line. IsTracedAt job entries.now index past placed line self.new) }
     {
         let alloc = self.alloc;
@@ -84,12 +88,12 @@ impl LogTracer {
         let call = &entry.line.call;
         let foreign = foreign_in(self.machines.cluster(), call);
         let untimely = self.greatest.untimely(call.reading());
-        let place = index as u64;
+        let place = index as u64 + 1;
         let made = make_call(&mut self.machines, &mut self.places, place, call)?;
         let MadeCall { reply, reason } = made;
         self.greatest.read(call.reading());
         let is_told = is_worded(alloc, entry.line.reply.as_str(), &reply)?;
-        let first_taking = taken_first(alloc, start, &entries[..index], call, &reply)?;
+        let first_taking = taken_first(alloc, start, takings, &entries[..index], call, &reply)?;
         let unsent = unsent_of(alloc, self.machines.cluster(), entries, index, call, &reply)?;
         let not_owner = not_owner_of(foreign, &reply);
         Ok(LogLine {

@@ -11,7 +11,7 @@ use Rattle.log_trace.proofs.Playing.{calls_more}
 use Rattle.log_trace.proofs.tracer.LogTracer.next.Goals as goal
 
 pub returns : goal.returns
-returns c = λ job past placed begins t.
+returns c = λ job past placed begins takings t.
     let entries = c.args.entries.now in
     let index = c.args.index in
     let entry = c.index-entries-index.result in
@@ -30,7 +30,7 @@ returns c = λ job past placed begins t.
         stands = made.stands;
         told = c.in_ok-is_told.ensures ∙ ap (λ (words : List ℕ). is_worded words c.in_ok-made.made.reply) c.as_str.ensures;
         reason = made.reason;
-        first_taking = c.in_ok-first_taking.ensures job begins;
+        first_taking = c.in_ok-first_taking.ensures job entries index begins takings refl;
         unsent = c.in_ok-unsent.ensures job made.after (c.cluster-2.ensures job made.after made.played);
         untimely = subst (λ (r : Reading). IsUntimelyAt job.policy.skew r before c.untimely-untimely.result) c.reading.ensures
             (c.untimely-untimely.ensures job.policy.skew before t.greatest);
