@@ -64,7 +64,7 @@ class LogMaker:
             return {"do": do, "task": task, "life": self.lives.get(task, 0) + self.random.choice((0, 0, 0, 1, -1))}
         if do == "sample":
             self.sampled += self.random.randint(1, 30)
-            reading = self.sampled + self.random.randint(0, 9)
+            reading = self.sampled + self.random.randint(0, 9) + self.random.choice((0,) * 9 + (400,))
             return {"do": do, "task": task, "sent": self.sampled, "reading": reading, "now": self.sampled + 5}
         kept = self.machines.kept_numbers()
         return {"do": do, **kept, "last": max(kept["last"] + self.random.choice((0, 0, 1, -1)), 0)}

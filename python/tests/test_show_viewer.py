@@ -24,7 +24,7 @@ from hourstable.show.trace import (  # noqa: E402
     Call, End, Head, Lease, Members, Owners, Place, Reason, Rule, Trace,
 )
 from showing import COMMANDS, SCRIPTS, of_logs, of_script, read  # noqa: E402
-from test_show import played  # noqa: E402
+from test_show import as_written, played  # noqa: E402
 from test_show_reasons import random_traces  # noqa: E402
 
 HELLO = slice_key(b"hello")
@@ -154,7 +154,7 @@ async def test_it_opens_at_the_fault(tmp_path: Path) -> None:
         assert "ended at 95; owners in generation 1" in why
         first, end = await span(tab)
         assert first < 0 and end > 95, "calls near the fault are not in view"
-        stored = (COMMANDS / "audit-served-at-the-deadline.stdout").read_text()
+        stored = as_written("audit-served-at-the-deadline")[0]
         assert await told(tab, "report") == stored
         assert await tab.value("chosenGrant") == 1
         await links(tab, "Where it was heard")

@@ -114,4 +114,6 @@ class Handles:
                 self.is_broken[index] = True
 
     def all(self) -> list[Members]:
-        return [{"handle": index + 1, "breaks": str(it)} for index, it in enumerate(self.breaks)]
+        """Returns when each handle breaks, in the order of the tasks that gave them."""
+        order = sorted(range(len(self.breaks)), key=lambda it: int(self.machines.handles[it]["task"]))
+        return [{"handle": index + 1, "breaks": str(self.breaks[index])} for index in order]
