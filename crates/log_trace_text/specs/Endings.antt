@@ -114,13 +114,13 @@ AreHintsTold job entries finding hints = (lacking : Lacking) × AreHints job ent
 -- THE LAST LINE
 
 -- what is told of logs that are one run
-pub record IsOneTold (job : Continued) (own : Job) (entries : List LogEntry) (drift : Option Drift) (forgotten : Bool) (run : OneRun) : Type 0 where
+pub record IsOneTold (job : Continued) (own : Job) (entries : List LogEntry) (asked : Option Drift) (is_lacking : Bool) (run : OneRun) : Type 0 where
   pub counts : AreCountsOf own entries run.counts
   pub one_word : run.one_word ≡ coarse_count entries
   pub silent : run.silent.items ≡ silent_tasks own entries
   pub untimely : AreUntimelyOf job entries run.untimely
-  pub drift : IsDriftFound drift entries run.drift
-  pub forgotten : run.forgotten ≡ forgotten
+  pub drift : IsDriftFound asked entries run.drift
+  pub forgotten : run.forgotten ≡ is_lacking
 
 -- of logs of which two entries have one ticket, which stand at these indices
 abbrev pub double_line : List LogLine → List LogEntry → ℕ → ℕ → Option LogEntry → Option LogEntry → List ℕ

@@ -27,24 +27,25 @@ is_played (Other index wanted held cause) with_calls = true
 
 abbrev pub IsTracedIf : Bool → Continued → List LogEntry → Option LogTrace → Type 0
 IsTracedIf true job entries (Some trace) = IsTraceOf job entries trace
-IsTracedIf false job entries trace = trace ≡ None
 IsTracedIf true job entries None = ⊥
+IsTracedIf false job entries trace = trace ≡ None
 
 -- stretches and handles are told with the calls, but not of logs that go on from others
 abbrev pub is_served : Start → Bool → Bool
 is_served start with_calls = with_calls && is_none start.earlier
 
 -- they are those of the calls before the first fault
-abbrev pub IsServedIf : Bool → Job → List LogEntry → Option ℕ → Option LogTrace → Option LogServing → Type 0
-IsServedIf true job entries key (Some trace) (Some serving) = IsServing job (take (length trace.lines.items) entries) key serving
-IsServedIf true job entries key (Some trace) None = ⊥
-IsServedIf _ job entries key _ serving = serving ≡ None
+abbrev pub IsServedIf : Option LogTrace → Bool → Job → List LogEntry → Option ℕ → Option LogServing → Type 0
+IsServedIf None told job entries key serving = serving ≡ None
+IsServedIf (Some trace) false job entries key serving = serving ≡ None
+IsServedIf (Some trace) true job entries key (Some serving) = IsServing job (take (length trace.lines.items) entries) key serving
+IsServedIf (Some trace) true job entries key None = ⊥
 
 -- what is told of the calls of logs of which this was found
 pub record ArePlayed (job : Continued) (start : Start) (entries : List LogEntry) (finding : Finding) (key : Option ℕ) (with_calls : Bool)
     (played : Played) : Type 0 where
   pub trace : IsTracedIf (is_played finding with_calls) job entries played.trace
-  pub serving : IsServedIf (is_served start with_calls) start.job entries key played.trace played.serving
+  pub serving : IsServedIf played.trace (is_served start with_calls) start.job entries key played.serving
 
 -- THE LINES OF IT
 

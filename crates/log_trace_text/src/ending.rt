@@ -83,8 +83,8 @@ pub(crate) fn end_line(
     let calls = entries.len() as u64;
     match &found.finding {
         Finding::One { .. } => {
-            let run = one_run(alloc, start, entries, drift, found.all_sent)?;
-            one_end(alloc, places, calls, &run)
+            let one = one_run(alloc, start, entries, drift, found.all_sent)?;
+            one_end(alloc, places, calls, &one)
         }
         Finding::Double { first, second } => double_line(alloc, places, entries, *first, *second),
         Finding::Other { .. } => {

@@ -41,7 +41,8 @@ fn trace_if(
     ensures { (job : Continued) → Begins job start.now → IfOk result (IsTracedIf is_played job entries.now) }
 {
     if is_played {
-        Ok(Some(log_trace_of(alloc, start, entries)?))
+        let trace = log_trace_of(alloc, start, entries)?;
+        Ok(Some(trace))
     } else {
         Ok(None)
     }
@@ -74,15 +75,17 @@ fn serving_if(
     trace: &Option<LogTrace>,
     is_served: bool,
 ) -> Result<Option<LogServing>, AllocError>
-    ensures { IfOk result (IsServedIf is_served start.now.job entries.now key trace.now) }
+    ensures { IfOk result (IsServedIf trace.now is_served start.now.job entries.now key) }
 {
-    match trace {
-        Some(trace) if is_served => {
-            let right = first_entries(entries, trace.lines.len());
-            Ok(Some(serving_of(alloc, start.job, right, key)?))
-        }
-        _ => Ok(None),
+    let Some(trace) = trace else {
+        return Ok(None);
+    };
+    if !is_served {
+        return Ok(None);
     }
+    let right = first_entries(entries, trace.lines.len());
+    let serving = serving_of(alloc, start.job, right, key)?;
+    Ok(Some(serving))
 }
 
 /// Plays the calls of logs of which this was found.

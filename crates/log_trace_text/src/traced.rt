@@ -1,13 +1,10 @@
 //! The trace of a log: a log in, the lines of its trace out.
 
-ghost use Rattle.std.specs.Prelude.{◌≡◌, ◌++◌, IfOk, map, option_map};
+ghost use Rattle.std.specs.Prelude.{◌≡◌, IfOk, map, option_map};
 ghost use Rattle.cluster.specs.continued.Jobs.{Continued};
-ghost use Rattle.reason_values.specs.Lines.{line_text};
-ghost use Rattle.trace_ends.specs.Heads.{logs_head_data};
 ghost use Rattle.log_causes.specs.Audited.{is_one};
 ghost use Rattle.log_run.specs.Starts.{Begins, BeginsAt};
-ghost use Rattle.log_trace_text.specs.Places.{place_at};
-ghost use Rattle.log_trace_text.specs.Traces.{AreLinesAfter, IsLogTraceText};
+ghost use Rattle.log_trace_text.specs.Traces.{AreLinesAfter, IsLogTraceText, head_text, wanted_by};
 
 use crate::ending::end_line;
 use crate::place::{places_at, places_of};
@@ -46,19 +43,27 @@ pub struct TracedLog {
     pub torn: Vec<LinePosition>,
 }
 
+// What is told after the first line.
+#[derive(Clone, Copy)]
+struct Body {
+    slice_key: Option<SliceKey>,
+    with_calls: bool,
+    drift: Option<Drift>,
+}
+
 fn head_line(
     alloc: Global,
     job: Job,
     names: &[&str],
     torn: &[LinePosition],
-    slice_key: Option<SliceKey>,
+    body: &Body,
     key: Option<&str>,
 ) -> Result<Vec<u8>, AllocError>
     ensures { IfOk result (λ text. text.items
-        ≡ line_text (logs_head_data job (map (λ n. n.now) names.now) (map place_at torn.now) slice_key (option_map (λ k. k.now) key.entry))) }
+        ≡ head_text job (map (λ n. n.now) names.now) torn.now body.now.slice_key (option_map (λ k. k.now) key.entry)) }
 {
     let lines = places_at(alloc, torn)?;
-    logs_head(alloc, job, names, lines.as_slice(), slice_key, key)
+    logs_head(alloc, job, names, lines.as_slice(), body.slice_key, key)
 }
 
 fn is_one(finding: &Finding) -> bool
@@ -73,18 +78,18 @@ fn lines_after(
     start: &Start,
     entries: &[LogEntry],
     found: &Found,
-    options: TraceOptions,
+    body: &Body,
 ) -> Result<Vec<u8>, AllocError>
     ensures { (job : Continued) → Begins job start.now
-        → IfOk result (λ text. AreLinesAfter job start.now entries.now found.now (record { key = option_map (λ k. k.now) options.entry.key; slice_key = options.entry.slice_key; with_calls = options.entry.with_calls; drift = options.entry.drift }) text.items) }
+        → IfOk result (λ text. AreLinesAfter job start.now entries.now found.now body.now.slice_key body.now.with_calls body.now.drift text.items) }
 {
     let places = places_of(alloc, entries)?;
     let places = places.as_slice();
-    let with_calls = options.with_calls;
-    let key = options.slice_key;
+    let with_calls = body.with_calls;
+    let key = body.slice_key;
     let played = played_of(alloc, start, entries, &found.finding, key, with_calls)?;
     let mut text = lines_between(alloc, places, entries, with_calls, &played)?;
-    let end = end_line(alloc, start, places, entries, found, options.drift)?;
+    let end = end_line(alloc, start, places, entries, found, body.drift)?;
     text.extend_from_slice(end.as_slice())?;
     Ok(text)
 }
@@ -105,22 +110,30 @@ pub fn traced_log<P: Progress>(
     progress: &mut P,
 ) -> Result<TracedLog, AllocError>
     ensures { (job : Continued) → BeginsAt job log.job earlier
-        → IfOk result (IsLogTraceText job log earlier (map (λ n. n.now) names.now) (record { key = option_map (λ k. k.now) options.entry.key; slice_key = options.entry.slice_key; with_calls = options.entry.with_calls; drift = options.entry.drift })) }
+        → IfOk result (IsLogTraceText job log earlier (map (λ n. n.now) names.now) (wanted_by options.entry)) }
 {
     let Log {
         job,
         mut entries,
         torn,
     } = log;
-    let TraceOptions { key, slice_key, .. } = options;
-    let mut text = head_line(alloc, job, names, torn.as_slice(), slice_key, key)?;
+    let TraceOptions {
+        key,
+        slice_key,
+        with_calls,
+        drift,
+    } = options;
+    let body = Body {
+        slice_key,
+        with_calls,
+        drift,
+    };
+    let mut text = head_line(alloc, job, names, torn.as_slice(), &body, key)?;
     let start = Start { job, earlier };
     let found = find_calls(alloc, &start, &mut entries, false, progress)?;
-    let lines = lines_after(alloc, &start, entries.as_slice(), &found, options)?;
+    let entries = entries.as_slice();
+    let lines = lines_after(alloc, &start, entries, &found, &body)?;
     text.extend_from_slice(lines.as_slice())?;
-    Ok(TracedLog {
-        text,
-        is_one: is_one(&found.finding),
-        torn,
-    })
+    let is_one = is_one(&found.finding);
+    Ok(TracedLog { text, is_one, torn })
 }

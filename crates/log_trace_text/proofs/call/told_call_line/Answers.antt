@@ -10,5 +10,6 @@ returns c =
     let entries = c.args.entries.now in
     let entry = c.args.entry.now in
     let line = c.args.line.now in
+    let made = rw c.warnings_of.ensures at c.in_ok-value.ensures in
     written c.line_of.result (λ text. text.items) line_text (view c.in_ok-value.value) (told_call_data places entries entry line (warnings_of line))
-    c.in_ok-value.ensures (told_call_whole places entries entry line (warnings_of line)) c.line_of.ensures
+    made (told_call_whole places entries entry line (warnings_of line)) c.line_of.ensures

@@ -11,5 +11,6 @@ returns c =
     let entry = c.args.entry.now in
     let line = c.args.line.now in
     let told = rw c.as_str.ensures at c.fault_text.ensures in
+    let made = rw c.no_warnings.ensures at c.in_ok-value.ensures in
     written c.fault_text.result (λ text. text.items) (fault_text entry.line.reply) (view c.in_ok-value.value) (told_call_data places entries entry line no_warnings)
-    c.in_ok-value.ensures (told_call_whole places entries entry line no_warnings) told
+    made (told_call_whole places entries entry line no_warnings) told
