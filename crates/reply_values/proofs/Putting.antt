@@ -22,7 +22,7 @@ at_place Less k l d e ms with_d d_whole e_whole whole with_whole = rw (d_whole, 
 at_place Equal k l d e ms with_d d_whole e_whole whole with_whole = rw (d_whole, whole) refl
 at_place Greater k l d e ms with_d d_whole e_whole whole with_whole = rw (e_whole, with_whole) refl
 
-put_whole : (k : List ℕ) (d : Data) (ms : Members) → has_float d ≡ false → members_have_float ms ≡ false → members_have_float (put k d ms) ≡ false
+pub put_whole : (k : List ℕ) (d : Data) (ms : Members) → has_float d ≡ false → members_have_float ms ≡ false → members_have_float (put k d ms) ≡ false
 put_whole k d no_members d_whole whole = rw d_whole refl
 put_whole k d (member l e ms) d_whole whole =
     let both = neither (has_float e) (members_have_float ms) whole in
