@@ -1,5 +1,5 @@
 -- Handles that are watched, and the first calls that took their keys away.
-use Rattle.std.specs.Prelude.{◌≡◌, ⊤, List, Option, Some, None, MatchOption, if◌then◌else◌}
+use Rattle.std.specs.Prelude.{◌≡◌, ⊤, List, Option, None, MatchOption, if◌then◌else◌}
 use Rattle.std.specs.List.{All, Any}
 use Rattle.replies.specs.declared.reply.Reply.TheVariants as reply
 use Rattle.cluster.specs.continued.Jobs.{Continued}

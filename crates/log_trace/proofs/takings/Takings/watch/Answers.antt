@@ -10,4 +10,4 @@ loop-place-preserved c = λ job past leads.
     let place = c.loop-place.place in
     let low : place < length all = omega (arith, c.loop-place-test.true, c.len-place-end.ensures) in
     rw (c.after.ensures job past leads) (map_over_more (taking_after (job_in job) past c.args.index) all c.loop-place.self.all.items place c.index.result.now low
-        (c.loop-place.invariant job past leads) c.index.ensures)
+    (c.loop-place.invariant job past leads) c.index.ensures)
