@@ -18,7 +18,7 @@ use Rattle.command.specs.declared.arguments.AuditFlags.{AuditFlags}
 use Rattle.command.specs.declared.arguments.TraceFlags.{TraceFlags}
 use Rattle.command.specs.declared.log_audit.AuditError.{AuditError}
 use Rattle.command.specs.declared.log_audit.AuditError.TheVariants as audit
-use Rattle.command.specs.Audits.{AreJudged, AreLogsKept, AreLogsRead, AreLogsTaken, AreNotJudged, AreOpened, AreRead, EndsInLine, IsJudged, IsLogBytes, IsLogRead, IsLogTaken, IsNotAudited, IsOneMore, IsReport, IsSomeReport, IsStateRead, passes}
+use Rattle.command.specs.Audits.{AreJudged, AreLogsRead, AreLogsTaken, AreNotJudged, AreOpened, AreRead, EndsInLine, IsJudged, IsLogBytes, IsLogRead, IsLogTaken, IsNotAudited, IsOneMore, IsReport, IsSomeReport, IsStateRead, passes}
 use Rattle.command.specs.internals.{AreLogsAfter, AreNotAfter}
 use Rattle.command.specs.Traces.{AreTraced, IsSomeTrace, IsTrace, IsTracing}
 use Rattle.command.proofs.Runs.{never_cut, nothing_yet}
