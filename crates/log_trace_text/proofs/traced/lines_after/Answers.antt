@@ -23,6 +23,6 @@ returns c = λ job begins.
       last = end;
       ends = subst (λ (places : List LogLine). IsEndLine job c.args.start.now places entries found.finding found.all_sent body.drift end) same
           (c.in_ok-end.ensures job begins);
-      lines = joined _ text _ (lines_between (places_of entries) entries body.with_calls played) end told c.as_slice-end.ensures.value
+      lines = joined _ text _ (lines_between (places_of entries) entries body.with_calls played) end told c.as_slice.ensures.value
           c.in_ok-extend_from_slice.ensures.items;
     }
