@@ -12,7 +12,6 @@ use Rattle.log_line.specs.Files.{IsLog, lines_from}
 use Rattle.log_line.specs.declared.log.Log.{Log}
 use Rattle.log_run.specs.Starts.{BeginsAt}
 use Rattle.log_trace_text.specs.Traces.{IsLogTraceText, Wanted}
-use Rattle.log_trace_text.specs.declared.traced.TraceOptions.{TraceOptions}
 use Rattle.log_trace_text.specs.declared.traced.TracedLog.{TracedLog}
 use Rattle.command.specs.declared.arguments.TraceFlags.{TraceFlags}
 use Rattle.command.specs.declared.log_audit.AuditError.{AuditError}
@@ -37,14 +36,6 @@ pub record AsksForTrace (flags : TraceFlags) (wanted : Wanted) : Type 0 where
   pub slice_key : IsKeyWanted flags.goes_on flags.key flags.slice_key wanted.slice_key
   pub calls : wanted.with_calls ≡ flags.with_calls
   pub drift : IsDriftGiven flags.drift wanted.drift
-
-abbrev pub wanted_by : TraceOptions → Wanted
-wanted_by options = record {
-  key = option_map (λ k. k.now) options.key;
-  slice_key = options.slice_key;
-  with_calls = options.with_calls;
-  drift = options.drift;
-}
 
 -- what is traced of a log that begins with its job, or goes on from this snapshot, whatever run that is one of
 abbrev pub IsTraceOn : (log : Log) (earlier : Option ClusterSnapshot) (names : List (List ℕ)) → Wanted → TracedLog → Type 0

@@ -2,7 +2,8 @@
 
 ghost use Rattle.std.specs.Prelude.{IfErr, IfOk, None};
 ghost use Rattle.command.specs.Audits.{IsNotRead};
-ghost use Rattle.command.specs.Traces.{AsksForTrace, IsKeyWanted, IsSliceKeyOrNone, wanted_by};
+ghost use Rattle.command.specs.Traces.{AsksForTrace, IsKeyWanted, IsSliceKeyOrNone};
+ghost use Rattle.log_trace_text.specs.Traces.{wanted_by};
 
 use crate::arguments::TraceFlags;
 use crate::audit_options::drift_given;

@@ -1,19 +1,17 @@
 -- What a trace ends with has no fractions.
-use Rattle.std.proofs.Common.{◌≡◌, ℕ, List, [], ◌∷◌, ◌++◌, Bool, true, false, ◌||◌, ◌==◌, Option, Some, None, option_map, Ordering, Less, Equal, Greater, nat_cmp, nat_eq, map, Result, Ok, Err, IfOk, refl}
+use Rattle.std.proofs.Common.{◌≡◌, ℕ, List, [], ◌∷◌, ◌++◌, Bool, true, false, ◌||◌, ◌==◌, Option, Some, None, option_map, nat_eq, map, Result, Ok, Err, IfOk, refl}
 use Rattle.std.specs.Prelude.{codes, if◌then◌else◌}
-use Rattle.std.proofs.lemmas.Bool.{or_parts}
-use Rattle.std.specs.Cmp.Lexicographic.{slice_cmp}
-use Rattle.std.specs.Ordering.{match_ordering}
 use Rattle.serde_json.specs.Data.{Data, Members, array, boolean, no_members, member, object, put, string}
 use Rattle.serde_json.specs.View.{items_of}
 use Rattle.serde_json.specs.Written.{has_float, items_have_float, members_have_float}
-use Rattle.cluster.specs.Numbers.{with_number}
 use Rattle.wire.specs.Objects.{list_data, number_data}
 use Rattle.wire.proofs.Lists.{items_whole}
 use Rattle.reason_values.specs.declared.place.LogLine.{LogLine}
 use Rattle.reason_values.specs.Lines.{line_text}
 use Rattle.reply_values.specs.Values.{large_data, put_if}
-use Rattle.reason_values.specs.Places.{place_data, with_line, with_place}
+use Rattle.reason_values.specs.Places.{with_place}
+use Rattle.reason_values.proofs.Whole.{place_whole, with_place_whole}
+use Rattle.reply_values.proofs.Putting.{put_whole}
 use Rattle.trace_ends.specs.declared.drift.DriftFound.{DriftFound}
 use Rattle.trace_ends.specs.declared.drift.DriftFound.TheVariants.{Kept, Wrong}
 use Rattle.trace_ends.specs.declared.drift.SampleFault.{SampleFault}
@@ -36,21 +34,6 @@ use Rattle.trace_ends.specs.Heads.{begun, job_data, log_line_data, logs_members,
 both_whole : (a b : Bool) → a ≡ false → b ≡ false → a || b ≡ false
 both_whole a b first second = rw first second
 
-chosen_whole : (o : Ordering) (a b c : Members) → members_have_float a ≡ false → members_have_float b ≡ false → members_have_float c ≡ false
-    → members_have_float (match_ordering o a b c) ≡ false
-chosen_whole Less a b c below same above = below
-chosen_whole Equal a b c below same above = same
-chosen_whole Greater a b c below same above = above
-
-pub put_whole : (name : List ℕ) (value : Data) (others : Members) → has_float value ≡ false → members_have_float others ≡ false
-    → members_have_float (put name value others) ≡ false
-put_whole name value no_members whole rest = both_whole (has_float value) false whole refl
-put_whole name value (member other held others) whole rest =
-    let parts = or_parts (has_float held) (members_have_float others) rest in
-    chosen_whole (slice_cmp nat_cmp name other) (member name value (member other held others)) (member other value others)
-    (member other held (put name value others)) (both_whole (has_float value) _ whole rest) (both_whole (has_float value) _ whole parts.1)
-    (both_whole (has_float held) _ parts.0 (put_whole name value others whole parts.1))
-
 pub is_whole : Option Data → Type 0
 is_whole None = Unit {0}
 is_whole (Some value) = has_float value ≡ false
@@ -60,22 +43,6 @@ pub put_if_whole : (name : List ℕ) (value : Option Data) (others : Members) �
 unfolding is_whole
 put_if_whole name None others whole rest = rest
 put_if_whole name (Some value) others whole rest = put_whole name value others whole rest
-
--- PLACES
-
-line_whole : (at : Option LogLine) (others : Members) → members_have_float others ≡ false → members_have_float (with_line at others) ≡ false
-line_whole None others rest = rest
-line_whole (Some at) others rest =
-    put_whole (codes "log") (number_data at.log) (put (codes "line") (number_data at.line) others) refl
-    (put_whole (codes "line") (number_data at.line) others refl rest)
-
-pub with_place_whole : (lines : List LogLine) (call : ℕ) (others : Members) → members_have_float others ≡ false
-    → members_have_float (with_place lines call others) ≡ false
-with_place_whole lines call others rest =
-    line_whole (with_number call lines) (put (codes "call") (number_data call) others) (put_whole (codes "call") (number_data call) others refl rest)
-
-pub place_whole : (lines : List LogLine) (call : ℕ) → has_float (place_data lines call) ≡ false
-place_whole lines call = with_place_whole lines call no_members refl
 
 -- READINGS AND SAMPLES
 
