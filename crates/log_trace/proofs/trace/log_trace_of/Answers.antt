@@ -16,7 +16,7 @@ pub loop-index-preserved : goal.loop-index-preserved
 loop-index-preserved c = λ job begins.
     let entries = c.args.entries.now in
     let known = c.loop-index.invariant job begins in
-    let traced = c.in_ok-line.ensures job known.past known.placed begins (c.in_ok-takings.ensures job begins) known.tracing in
+    let traced = c.in_ok-line.ensures job known.past known.placed begins (c.in_ok-takings.ensures.takings job begins) known.tracing in
     let line = c.in_ok-line.line in
     record {
       past = traced.after;
@@ -32,7 +32,7 @@ pub returns-then-len-eq-MOST_WRONG_REPLIES : goal.returns-then-len-eq-MOST_WRONG
 returns-then-len-eq-MOST_WRONG_REPLIES c = λ job begins.
     let entries = c.args.entries.now in
     let known = c.loop-index.invariant job begins in
-    let traced = c.in_ok-line.ensures job known.past known.placed begins (c.in_ok-takings.ensures job begins) known.tracing in
+    let traced = c.in_ok-line.ensures job known.past known.placed begins (c.in_ok-takings.ensures.takings job begins) known.tracing in
     let line = c.in_ok-line.line in
     record {
       played = c.loop-index.index + 1;
